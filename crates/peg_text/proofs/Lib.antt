@@ -1,0 +1,5 @@
+pub mod CursorLemmas
+pub mod ListLemmas
+pub mod DecimalLemmas
+pub mod RecordLemmas
+pub mod PairLemmas
