@@ -1,0 +1,4 @@
+pub mod Names
+pub mod NameText
+pub mod Order
+pub mod WordText
