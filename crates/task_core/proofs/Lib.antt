@@ -1,0 +1,6 @@
+pub mod Tasks
+pub mod Runs
+pub mod History
+pub mod Lengths
+pub mod Queue
+pub mod Sound
