@@ -1,0 +1,9 @@
+pub mod Drawing
+pub mod FitLemmas
+pub mod Lists
+pub mod RadiusLemmas
+pub mod ReadBack
+pub mod SumTexts
+pub mod TextLemmas
+pub mod ValueTexts
+pub mod WordLemmas
