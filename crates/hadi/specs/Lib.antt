@@ -1,0 +1,3 @@
+pub mod Hadi
+pub mod Lawful
+pub mod Radii
