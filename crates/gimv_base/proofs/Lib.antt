@@ -1,0 +1,4 @@
+pub mod PartLemmas
+pub mod GroupLemmas
+pub mod ReadingLemmas
+pub mod ReadBackLemmas

@@ -1,0 +1,11 @@
+pub mod Parts
+pub mod Rules
+pub mod Fields
+pub mod Records
+pub mod Lines
+pub mod BaseRules
+pub mod Standings
+pub mod Answers
+pub mod Blame
+pub mod Placing
+pub mod ReadBack

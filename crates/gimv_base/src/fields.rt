@@ -1,0 +1,43 @@
+ghost use Rattle.std.specs.Prelude.{◌≡◌, ◌<◌, ◌≤◌, ◌^◌, length, position, option_map, IfSome};
+ghost use Rattle.gimv_base.specs.Fields.{around_blank, is_blank, number_below, tagged};
+
+use peg_text::read_decimal;
+
+/// The number that a decimal text writes, where it is below `bound`, which is at most 2^32.
+pub fn read_below(text: &[u8], bound: u64) -> Option<u32>
+    requires { bound ≤ 2 ^ 32 }
+    ensures { result ≡ number_below bound text.now }
+{
+    match read_decimal(text) {
+        Some(number) if number < bound => Some(number as u32),
+        _ => None,
+    }
+}
+
+/// What follows a tag and a blank. `None` where a text doesn't begin so.
+pub fn after_tag(text: &[u8], tag: u8) -> Option<&[u8]>
+    ensures { option_map (λ rest. rest.now) result ≡ tagged tag text.now }
+{
+    match text {
+        [first, b' ', rest @ ..] if *first == tag => Some(rest),
+        _ => None,
+    }
+}
+
+/// The texts before and after the first blank. `None` where there is no blank.
+pub fn around_blank(text: &[u8]) -> Option<(&[u8], &[u8])>
+    ensures { option_map (λ parts. (parts.0.now, parts.1.now)) result ≡ around_blank text.now }
+{
+    match first_blank(text) {
+        Some(at) => Some((&text[..at], &text[at + 1..])),
+        None => None,
+    }
+}
+
+/// Where the first blank stands.
+fn first_blank(text: &[u8]) -> Option<usize>
+    ensures is { result ≡ position is_blank text.now }
+    ensures inside { IfSome result (λ at. at < length text.now) }
+{
+    text.iter().position(|byte| *byte == b' ')
+}
