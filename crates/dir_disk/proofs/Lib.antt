@@ -1,0 +1,7 @@
+pub mod ExampleLemmas
+pub mod Lendings
+pub mod Says
+pub mod Sound
+pub mod Steps
+pub mod StreamLemmas
+pub mod Through

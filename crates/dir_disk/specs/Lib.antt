@@ -1,0 +1,9 @@
+pub mod Calls
+pub mod Causes
+pub mod Doubles
+pub mod Examples
+pub mod FaultPlan
+pub mod Lent
+pub mod Moments
+pub mod State
+pub mod Streams
