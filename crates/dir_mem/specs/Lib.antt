@@ -1,0 +1,9 @@
+pub mod Effects
+pub mod Facts
+pub mod Failing
+pub mod Laws
+pub mod Lending
+pub mod Log
+pub mod Memory
+pub mod Sound
+pub mod Traces
