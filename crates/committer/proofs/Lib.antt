@@ -1,0 +1,7 @@
+pub mod CommitLemmas
+pub mod FolderLemmas
+pub mod JobLemmas
+pub mod LawLemmas
+pub mod MoveLemmas
+pub mod NamesApart
+pub mod SealingLemmas

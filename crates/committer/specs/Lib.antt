@@ -1,0 +1,5 @@
+pub mod Commits
+pub mod Faults
+pub mod Folders
+pub mod Laws
+pub mod Paths
