@@ -1,0 +1,255 @@
+ghost use Rattle.std.specs.Prelude.{◌≡◌, ◌≤◌, ◌^◌, ℕ, [], None, Err, Ok, IfOk, IfSome, MatchResult, length};
+ghost use Rattle.dir_disk.specs.Causes.{HasCause};
+ghost use Rattle.dir_disk.specs.State.{no_files};
+
+use crate::reads::read_some;
+use crate::std_streams::say_on;
+use crate::tree::{clear_folder, is_absent, is_folder, parent_of, remove_any, sync, sync_tree};
+use dir_disk::{Console, Dir, DirFault, SayFault};
+use peg_base::Path;
+use peg_text::NoMemory;
+use std::alloc::{AllocGlobal, Global};
+use std::fs::{OpenFile, OpenOptions};
+use std::io::{ErrorKind, Print, Read, Seek, SeekFrom, Write};
+use std::rt::Files;
+use std::{fs, io};
+
+/// The most bytes of a file: 2^50.
+const LONGEST: u64 = 1 << 50;
+
+/// A work folder of the machine with standard output beside it. It tells no content.
+///
+/// Folders are made where a file is written, and may be left without files; a folder without files counts as not there.
+#[derive(Drop)]
+pub struct HostSite<'r, R> {
+    rt: &'r R,
+    work: String,
+    child: String,
+    faults: u64,
+    say_faults: u64,
+}
+
+impl<'r, R: Files + Print + AllocGlobal + Clone + Drop> HostSite<'r, R> {
+    /// A site over the folder of this path, which need not be there yet, with the program that is to stand for `pegchild`.
+    pub fn new(
+        rt: &'r R,
+        alloc: Global,
+        work: &str,
+        child: &str,
+    ) -> Result<HostSite<'r, R>, NoMemory>
+        ensures faults { IfOk result (λ site. ⟦<HostSite<'r, R> as Dir>⟧.faults site ≡ 0) }
+        ensures say_faults { IfOk result (λ site. ⟦<HostSite<'r, R> as Console>⟧.say_faults site ≡ 0) }
+    {
+        Ok(HostSite {
+            rt,
+            work: String::from_str(alloc, work)?,
+            child: String::from_str(alloc, child)?,
+            faults: 0,
+            say_faults: 0,
+        })
+    }
+
+    /// The path of a file or a folder on the machine.
+    fn place_of(&self, alloc: Global, path: &Path) -> Result<String, NoMemory> {
+        let mut place = String::from_str(alloc, self.work.as_str())?;
+        for name in path.names() {
+            place.push('/')?;
+            place.push_str(name.text())?;
+        }
+        Ok(place)
+    }
+
+    /// What a call answers, with its fault counted.
+    fn counted<T>(&mut self, answer: io::Result<T>) -> Result<T, DirFault>
+        ensures answer { MatchResult answer (λ value. result ≡ Ok value) (λ _. result ≡ Err DirFault.Failed) }
+        ensures cause { HasCause DirFault.Failed self.old.faults self.new.faults result }
+        ensures say_faults { self.new.say_faults ≡ self.old.say_faults }
+    {
+        match answer {
+            Ok(value) => Ok(value),
+            Err(_) => {
+                self.faults = self.faults.saturating_add(1);
+                Err(DirFault::Failed)
+            }
+        }
+    }
+
+    /// The size of the file at a place, or `None` where no file is.
+    fn try_size(&self, place: &str) -> io::Result<Option<u64>>
+        ensures { IfOk result (λ size. IfSome size (λ n. n ≤ 2 ^ 50)) }
+    {
+        match fs::metadata(self.rt, place) {
+            Ok(found) if found.is_dir() => Ok(None),
+            Ok(found) if found.len() <= LONGEST => Ok(Some(found.len())),
+            Ok(_) => Err(io::Error::from(ErrorKind::FileTooLarge)),
+            Err(error) if is_absent(&error) => Ok(None),
+            Err(error) => Err(error),
+        }
+    }
+
+    /// Fills the buffer with what the file at a place has from `from` on: how many bytes there are.
+    fn try_read(&self, place: &str, from: u64, buffer: &mut [u8]) -> io::Result<usize>
+        ensures { IfOk result (λ len. len ≤ length buffer.old) }
+    {
+        let mut file = fs::open(self.rt, place)?;
+        if from > LONGEST {
+            return Ok(0);
+        }
+        file.seek(SeekFrom::Start(from))?;
+        fill(&mut file, buffer)
+    }
+
+    /// Opens a file to append to it, and makes it and the folders above it where they are missing.
+    fn open_to_append(&self, place: &str) -> io::Result<R::File> {
+        let mut how = OpenOptions::new();
+        how.append(true).create(true);
+        match how.open(self.rt, place) {
+            Err(error) if error.kind() == ErrorKind::NotFound => {
+                fs::create_dir_all(self.rt, parent_of(place))?;
+                how.open(self.rt, place)
+            }
+            Err(error) if error.kind() == ErrorKind::IsADirectory => {
+                clear_folder(self.rt, place)?;
+                how.open(self.rt, place)
+            }
+            answer => answer,
+        }
+    }
+
+    fn try_append(&self, place: &str, bytes: &[u8]) -> io::Result<()> {
+        let mut file = self.open_to_append(place)?;
+        if bytes.len() as u64 > LONGEST.saturating_sub(file.metadata()?.len()) {
+            return Err(io::Error::from(ErrorKind::FileTooLarge));
+        }
+        file.write_all(bytes)
+    }
+
+    fn try_move(&self, from: &str, to: &str) -> io::Result<()> {
+        if is_folder(self.rt, to)? {
+            clear_folder(self.rt, to)?;
+        }
+        fs::create_dir_all(self.rt, parent_of(to))?;
+        fs::rename(self.rt, from, to)
+    }
+
+    /// Syncs all at and under a place, and then so many folders above it.
+    fn try_settle(&self, place: &str, above: usize) -> io::Result<()> {
+        sync_tree(self.rt, place)?;
+        let mut folder = place;
+        for _ in 0..above {
+            folder = parent_of(folder);
+            sync(self.rt, folder)?;
+        }
+        Ok(())
+    }
+}
+
+/// Reads until the buffer is full or the reader is at its end: how many bytes came.
+fn fill(reader: &mut impl Read, buffer: &mut [u8]) -> io::Result<usize>
+    ensures { IfOk result (λ len. len ≤ length buffer.old) }
+{
+    let mut len = 0;
+    while len < buffer.len() {
+        let more = read_some(reader, &mut buffer[len..])?;
+        if more == 0 {
+            break;
+        }
+        len += more;
+    }
+    Ok(len)
+}
+
+impl<'r, R: Files + Print + AllocGlobal + Clone + Drop> Dir for HostSite<'r, R> {
+    ghost tells = { ⊥ };
+
+    ghost told = { λ _. record { count = 0; at = λ _. record { calls = 0; state = no_files } } };
+
+    ghost lent = { λ _. [] };
+
+    ghost faults = { λ site. site.faults };
+
+    ghost Beside = { ℕ };
+
+    ghost beside = { λ site. site.say_faults };
+
+    fn size(&mut self, alloc: Global, path: &Path) -> Result<Option<u64>, DirFault> {
+        let Ok(place) = self.place_of(alloc, path) else {
+            return Err(DirFault::NoMemory);
+        };
+        let answer = self.try_size(place.as_str());
+        self.counted(answer)
+    }
+
+    fn read(
+        &mut self,
+        alloc: Global,
+        path: &Path,
+        from: u64,
+        max: u32,
+    ) -> Result<Vec<u8>, DirFault> {
+        let Ok(place) = self.place_of(alloc, path) else {
+            return Err(DirFault::NoMemory);
+        };
+        let Ok(mut bytes) = vec![in alloc; 0u8; max as usize] else {
+            return Err(DirFault::NoMemory);
+        };
+        let answer = self.try_read(place.as_str(), from, &mut bytes);
+        let len = self.counted(answer)?;
+        bytes.truncate(len);
+        Ok(bytes)
+    }
+
+    fn append(&mut self, alloc: Global, path: &Path, bytes: &[u8]) -> Result<(), DirFault> {
+        let Ok(place) = self.place_of(alloc, path) else {
+            return Err(DirFault::NoMemory);
+        };
+        let answer = self.try_append(place.as_str(), bytes);
+        self.counted(answer)
+    }
+
+    fn move_tree(&mut self, alloc: Global, from: &Path, to: &Path) -> Result<(), DirFault> {
+        let (Ok(from), Ok(to)) = (self.place_of(alloc, from), self.place_of(alloc, to)) else {
+            return Err(DirFault::NoMemory);
+        };
+        let answer = self.try_move(from.as_str(), to.as_str());
+        self.counted(answer)
+    }
+
+    fn remove_tree(&mut self, alloc: Global, path: &Path) -> Result<(), DirFault> {
+        let Ok(place) = self.place_of(alloc, path) else {
+            return Err(DirFault::NoMemory);
+        };
+        let answer = remove_any(self.rt, place.as_str());
+        self.counted(answer)
+    }
+
+    fn settle(&mut self, alloc: Global, path: &Path) -> Result<(), DirFault> {
+        let Ok(place) = self.place_of(alloc, path) else {
+            return Err(DirFault::NoMemory);
+        };
+        let answer = self.try_settle(place.as_str(), path.names().len());
+        self.counted(answer)
+    }
+
+    ghost clock = { λ site early late tells. absurd tells };
+
+    ghost now_allowed = { λ site path tells. absurd tells };
+
+    ghost short_files = { λ site path bytes tells. absurd tells };
+
+    ghost top_is_no_file = { λ site content tells. absurd tells };
+}
+
+impl<'r, R: Files + Print + AllocGlobal + Clone + Drop> Console for HostSite<'r, R> {
+    ghost said = { λ _. None };
+
+    ghost say_faults = { λ site. site.say_faults };
+
+    ghost Beside = { ℕ };
+
+    ghost beside = { λ site. site.faults };
+
+    fn say(&mut self, _alloc: Global, bytes: &[u8]) -> Result<(), SayFault> {
+        say_on(self.rt, &mut self.say_faults, bytes)
+    }
+}
