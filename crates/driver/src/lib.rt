@@ -1,0 +1,14 @@
+//! The commands of the program, from their words and edges to the lines that they say.
+#![tactic(auto)]
+
+mod lines;
+mod outcome;
+mod plain;
+mod reading;
+mod words;
+
+pub use outcome::Outcome;
+pub use plain::run_plain;
+
+#[cfg(test)]
+mod tests;
