@@ -1,4 +1,5 @@
 pub mod ExampleLemmas
+pub mod Keeping
 pub mod Lendings
 pub mod Says
 pub mod Sound

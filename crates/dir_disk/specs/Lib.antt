@@ -3,6 +3,7 @@ pub mod Causes
 pub mod Doubles
 pub mod Examples
 pub mod FaultPlan
+pub mod Keeping
 pub mod Lent
 pub mod Moments
 pub mod State
