@@ -5,7 +5,8 @@ use Rattle.peg_base.specs.Names.{Names, under, same_path, after_top}
 use Rattle.peg_base.proofs.Under.{same_path-refl}
 use Rattle.dir_disk.specs.State.{Member, Gone, Exactly, Anything, Content, Allows, Held, State, IsSound, just, appended, removed_from, removed, moved_to}
 use Rattle.dir_disk.specs.Calls.{Call, Look, Append, Move, Remove, Settle, after, after_fault, may_change}
-use Rattle.dir_disk.specs.Examples.{AppendedMayBeAnything, MovedUnsettledMayBeAnything, SettledIsThere, MovedMayBeAtEitherOrNone, RemovedMayBeThere, RemovedAndSettledIsGone, SettledFolderIsThere, MovedFolderTakesAll, ArrivesAsItWas, FailsInAnyPart, FailedAppendMayBeAnything, FitsBetween, MixesWithin, StaysSound, CallMakesFresh}
+use Rattle.dir_disk.specs.Examples.{AppendedMayBeAnything, MovedUnsettledMayBeAnything, SettledIsThere, MovedMayBeAtEitherOrNone, RemovedMayBeThere, RemovedAndSettledIsGone, SettledFolderIsThere, MovedFolderTakesAll, ArrivesAsItWas, FailsInAnyPart, FailedAppendMayBeAnything, FitsBetween, MixesWithin, StaysSound, CallMakesFresh, StartedMayLeaveAnything, StartLeavesOthers, EndLeavesOthers}
+use Rattle.dir_disk.specs.Children.{OnlyAt, after_start}
 use Rattle.dir_disk.proofs.Sound.{sound_after}
 use Rattle.dir_disk.proofs.Says.{fresh_call, clock_on}
 use Rattle.dir_disk.proofs.Steps.{after_others, appended_at}
@@ -144,3 +145,19 @@ stays_sound call state sound = sound_after call state sound
 
 pub call_makes_fresh : CallMakesFresh
 call_makes_fresh old new adds is_clock = (clock_on 1 old new adds is_clock, fresh_call old new adds is_clock)
+
+-- ---- children
+
+pub started_may_leave_anything : StartedMayLeaveAnything
+started_may_leave_anything = anything_or_gone
+
+pub start_leaves_others : StartLeavesOthers
+start_leaves_others output path state other = rw other refl
+
+pub end_leaves_others : EndLeavesOthers
+end_leaves_others output path old new only other = held_same (new path) (old path) (only.others path other) (only.may path)
+  where
+    held_same : (a b : Held) → a.now ≡ b.now → a.may ≡ b.may → a ≡ b
+    held_same a b now may =
+        ap (λ (content : Content). (let held : Held = record { now = content; may = a.may } in held)) now
+        ∙ ap (λ (members : List Member). (let held : Held = record { now = b.now; may = members } in held)) may

@@ -1,9 +1,10 @@
 -- What a stop may leave, by small examples and by what holds of every call.
-use Rattle.std.specs.Prelude.{◌≡◌, ℕ, Bool, ◌⊎◌, ◌↔◌, List, [], ◌∷◌, ◌++◌, Some, None, IsSome, codes, if◌then◌else◌}
-use Rattle.peg_base.specs.Names.{Names}
+use Rattle.std.specs.Prelude.{◌≡◌, ℕ, Bool, ◌⊎◌, ◌↔◌, false, List, [], ◌∷◌, ◌++◌, Some, None, IsSome, codes, if◌then◌else◌}
+use Rattle.peg_base.specs.Names.{Names, same_path}
 use Rattle.dir_disk.specs.State.{Member, Exactly, Content, Allows, State, Image, Fits, FitsEither, IsSound, no_files, absent, arrival}
 use Rattle.dir_disk.specs.Calls.{Call, Append, Move, Remove, Settle, after, after_fault, after_all, Broken}
 use Rattle.dir_disk.specs.Moments.{Told, Adds, IsClock, IsFresh}
+use Rattle.dir_disk.specs.Children.{OnlyAt, after_start}
 
 -- two files, a folder, and a file in it
 abbrev pub x : Names
@@ -112,3 +113,16 @@ StaysSound = (call : Call) (state : State) → IsSound state → IsSound (after 
 
 abbrev pub CallMakesFresh : Type 0
 CallMakesFresh = (old new : Told) → Adds old new → IsClock old → IsClock new × IsFresh new
+
+-- ---- children
+
+-- what a child has written may have any bytes after a stop, or may not be there, until it is settled
+abbrev pub StartedMayLeaveAnything : Type 0
+StartedMayLeaveAnything = LeavesAnything (after_start x no_files) x
+
+abbrev pub StartLeavesOthers : Type 0
+StartLeavesOthers = (output path : Names) (state : State) → same_path output path ≡ false → after_start output state path ≡ state path
+
+-- the end of a child leaves all paths but its output as they are
+abbrev pub EndLeavesOthers : Type 0
+EndLeavesOthers = (output path : Names) (old new : State) → OnlyAt output old new → same_path output path ≡ false → new path ≡ old path

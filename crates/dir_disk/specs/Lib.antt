@@ -1,10 +1,12 @@
 pub mod Calls
 pub mod Causes
+pub mod Children
 pub mod Doubles
 pub mod Examples
 pub mod FaultPlan
 pub mod Keeping
 pub mod Lent
 pub mod Moments
+pub mod Says
 pub mod State
 pub mod Streams

@@ -1,6 +1,6 @@
 //! What a stop may leave of a directory: small examples, and what holds of every call. Each function is a law that its
 //! contract states, and does nothing.
-ghost use Rattle.dir_disk.specs.Examples.{AppendedMayBeAnything, MovedUnsettledMayBeAnything, SettledIsThere, MovedMayBeAtEitherOrNone, RemovedMayBeThere, RemovedAndSettledIsGone, SettledFolderIsThere, MovedFolderTakesAll, ArrivesAsItWas, FailsInAnyPart, FailedAppendMayBeAnything, FitsBetween, MixesWithin, StaysSound, CallMakesFresh};
+ghost use Rattle.dir_disk.specs.Examples.{AppendedMayBeAnything, MovedUnsettledMayBeAnything, SettledIsThere, MovedMayBeAtEitherOrNone, RemovedMayBeThere, RemovedAndSettledIsGone, SettledFolderIsThere, MovedFolderTakesAll, ArrivesAsItWas, FailsInAnyPart, FailedAppendMayBeAnything, FitsBetween, MixesWithin, StaysSound, CallMakesFresh, StartedMayLeaveAnything, StartLeavesOthers, EndLeavesOthers};
 
 /// A file that was appended to and not settled may have any bytes after a stop, or may not be there.
 pub fn appended_may_be_anything()
@@ -76,4 +76,19 @@ pub fn stays_sound()
 /// A call moves the clock on, so that what is said right after it is said at a moment of its own.
 pub fn call_makes_fresh()
     ensures { CallMakesFresh }
+{}
+
+/// What a child has written may have any bytes after a stop, or may not be there, until it is settled.
+pub fn started_may_leave_anything()
+    ensures { StartedMayLeaveAnything }
+{}
+
+/// A start leaves all paths but the child's output as they are.
+pub fn start_leaves_others()
+    ensures { StartLeavesOthers }
+{}
+
+/// The end of a child leaves all paths but its output as they are.
+pub fn end_leaves_others()
+    ensures { EndLeavesOthers }
 {}

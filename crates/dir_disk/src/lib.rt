@@ -8,6 +8,7 @@ mod mem_console;
 mod mem_sink;
 mod mem_source;
 mod silent;
+mod site;
 mod streams;
 
 pub use dir::{Dir, DirFault};
@@ -16,6 +17,7 @@ pub use mem_console::MemConsole;
 pub use mem_sink::MemSink;
 pub use mem_source::MemSource;
 pub use silent::SilentDir;
+pub use site::{Ended, LogEntry, Site, StartFault};
 pub use streams::{Console, SayFault, Sink, SinkFault, Source, SourceFault};
 
 #[cfg(test)]

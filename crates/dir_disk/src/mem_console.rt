@@ -1,4 +1,4 @@
-ghost use Rattle.std.specs.Prelude.{◌≡◌, ◌↔◌, [], Some, Err, OnOk, OnErr, IsErrOf, IsTrue};
+ghost use Rattle.std.specs.Prelude.{◌≡◌, ◌↔◌, [], None, Some, Err, OnOk, OnErr, IsErrOf, IsTrue};
 ghost use Rattle.dir_disk.specs.Causes.{HasCause};
 ghost use Rattle.dir_disk.specs.FaultPlan.{counted, is_due, planned};
 ghost use Rattle.dir_disk.specs.Streams.{AddsPart, added};
@@ -42,6 +42,10 @@ impl MemConsole {
 
 impl Console for MemConsole {
     ghost said = { λ c. Some c.bytes };
+
+    ghost says = { λ _. None };
+
+    ghost moment = { λ _. 0 };
 
     ghost say_faults = { λ c. c.plan.faults };
 

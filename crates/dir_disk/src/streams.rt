@@ -1,6 +1,7 @@
 ghost use Rattle.std.specs.Prelude.{◌≡◌, ◌≤◌, ℕ, List, [], Option, length, IfOk, OnOk, OnErr, IsErrOf};
 ghost use Rattle.dir_disk.specs.Causes.{HasCause};
 ghost use Rattle.dir_disk.specs.Streams.{AddsPart, AtEnd, added, onto};
+ghost use Rattle.dir_disk.specs.Says.{Say, with_say};
 
 use std::alloc::Global;
 
@@ -70,6 +71,12 @@ pub trait Console {
     /// The bytes that were said, where the console tells them.
     ghost said: { Self → Option (List ℕ) };
 
+    /// The says so far, where the console tells them.
+    ghost says: { Self → Option (List Say) };
+
+    /// The moment of a say that is made now: how many calls were made of the directory that is beside the console.
+    ghost moment: { Self → ℕ };
+
     /// How often a say has failed.
     ghost say_faults: { Self → ℕ };
 
@@ -84,6 +91,7 @@ pub trait Console {
         ensures ok { OnOk result (said self.new ≡ added (said self.old) bytes.now) }
         ensures part { AddsPart (said self.old) (said self.new) bytes.now }
         ensures no_memory { IsErrOf result SayFault.NoMemory → said self.new ≡ said self.old }
+        ensures says { says self.new ≡ with_say bytes.now (moment self.old) result (says self.old) }
         ensures beside { beside self.new ≡ beside self.old }
         ensures cause { HasCause SayFault.Failed (say_faults self.old) (say_faults self.new) result };
 }
