@@ -19,7 +19,7 @@ use Rattle.dir_mem.specs.Effects.{Leads, after_break, broken}
 use Rattle.dir_mem.proofs.EffectLemmas.{if_true, if_false}
 
 -- states that are the same at each path are the same
-same_state : (s t : State) → ((path : Names) → s path ≡ t path) → s ≡ t
+pub same_state : (s t : State) → ((path : Names) → s path ≡ t path) → s ≡ t
 same_state s t same = λ i path. same path i
 
 -- a call that was carried out

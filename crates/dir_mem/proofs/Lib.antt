@@ -1,6 +1,11 @@
 pub mod CallLemmas
 pub mod EffectLemmas
+pub mod ImageLemmas
 pub mod ListLemmas
+pub mod LoanLemmas
 pub mod LogLemmas
+pub mod LookLemmas
 pub mod MoveLemmas
+pub mod PastLemmas
 pub mod SoundLemmas
+pub mod StartLemmas

@@ -48,3 +48,8 @@ lists_after paths changes old none lists path =
   where
     absent : is_listed paths path ≡ false → is_absent (old path) ≡ true
     absent unlisted = ⊎_elim (λ listed. absurd (false≢true (sym unlisted ∙ listed))) (λ is. is) (or_cases (is_listed paths path) (is_absent (old path)) (lists path))
+
+-- a change of a listed path
+pub listed_change : (paths : List Names) (change : Change) (state : State) → is_listed paths change.path ≡ true → ListsAll paths state → ListsAll paths (after_changes (change ∷ []) state)
+listed_change paths change state listed lists =
+    lists_after paths (change ∷ []) state (λ path unlisted. unlisted_change paths (change ∷ []) path (and_from (is_listed paths change.path) true listed refl) unlisted) lists

@@ -1,6 +1,7 @@
 -- The state after one step more.
-use Rattle.std.proofs.Common.{◌≡◌, ℕ, ◌+◌, ◌-◌, ◌<◌, ◌≤◌, List, [], ◌∷◌, ◌++◌, length, get_or, take, Option, Some, None, unwrap_or, refl, sym, ◌∙◌, ap, arith}
+use Rattle.std.proofs.Common.{◌≡◌, ℕ, zero, suc, ⊎_elim, ◌+◌, ◌-◌, ◌<◌, ◌≤◌, List, [], ◌∷◌, ◌++◌, length, get_or, take, Option, Some, None, unwrap_or, refl, sym, ◌∙◌, ap, arith}
 use Rattle.std.specs.Prelude.{option_and_then}
+use Rattle.std.proofs.lemmas.Bool.{cases_lt}
 use Rattle.std.proofs.lemmas.List.{take_more, take_all, take-append-le, length_push}
 use Rattle.peg_base.specs.Names.{Names}
 use Rattle.dir_disk.specs.State.{Member, Held, State, no_files}
@@ -59,3 +60,21 @@ adds_push old new step state is same =
       };
       reaches = same;
     }
+
+-- ---- one step back
+
+some_left : (steps : List Step) (place calls call : ℕ) → call < calls → calls ≡ calls_of (take place steps) → 0 < place
+some_left steps zero calls call more counted = absurd (omega (arith, more, counted))
+some_left steps (suc place) calls call more counted = omega arith
+
+-- the calls up to a place, and up to the one before
+pub calls_back : (steps : List Step) (place calls call : ℕ) (step : Step) → call < calls → calls ≡ calls_of (take place steps) → place ≤ length steps → step ≡ get_or steps (place - 1) step → calls ≡ calls_of (take (place - 1) steps) + count_of step
+calls_back steps place calls call step more counted within is =
+    let some : 0 < place = some_left steps place calls call more counted in
+    let back : place - 1 + 1 ≡ place = omega arith in
+    counted ∙ ap (λ (n : ℕ). calls_of (take n steps)) (sym back) ∙ ap calls_of (take_more steps (place - 1) step (omega (arith, within, some)) ∙ ap (λ (s : Step). take (place - 1) steps ++ s ∷ []) (sym is)) ∙ calls_push (take (place - 1) steps) step
+
+-- more calls were made by each later place
+pub later_back : (steps : List Step) (place calls call : ℕ) → call < calls → calls ≡ calls_of (take place steps) → ((later : ℕ) → place < later → later ≤ length steps → call < calls_of (take later steps)) → (later : ℕ) → place - 1 < later → later ≤ length steps → call < calls_of (take later steps)
+later_back steps place calls call more counted so_far later after within =
+    ⊎_elim (λ further. so_far later further within) (λ here. let same : place ≡ later = omega (arith, after, here) in omega (arith, more, counted, ap (λ (n : ℕ). calls_of (take n steps)) same)) (cases_lt place later)

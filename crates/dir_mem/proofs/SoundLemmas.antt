@@ -24,10 +24,10 @@ use Rattle.dir_mem.proofs.EffectLemmas.{if_false, if_true, one_change, or_first,
 
 -- ---- one path
 
-sound_from : (held : Held) → allows held.may held.now ≡ true → is_short_content held.now ≡ true → list_all is_short_member held.may ≡ true → is_sound held ≡ true
+pub sound_from : (held : Held) → allows held.may held.now ≡ true → is_short_content held.now ≡ true → list_all is_short_member held.may ≡ true → is_sound held ≡ true
 sound_from held allowed short all = and_from _ _ allowed (and_from _ _ short all)
 
-short_may : (held : Held) → is_sound held ≡ true → list_all is_short_member held.may ≡ true
+pub short_may : (held : Held) → is_sound held ≡ true → list_all is_short_member held.may ≡ true
 short_may held sound = (and_parts _ _ (and_parts _ _ sound).1).1
 
 sound_appended : (bytes : List ℕ) (held : Held) → is_sound held ≡ true → is_short (bytes_of held.now ++ bytes) ≡ true → is_sound (appended bytes held) ≡ true
@@ -68,12 +68,12 @@ sound_moved None may held short sound = sound
 sound_moved (Some bytes) may held short sound =
     sound_from (moved_to (Some bytes) may held) (ap (λ (test : Bool). test || allows held.may (Some bytes)) (admits_arrival may bytes)) short (and_from _ _ (short_arrival may bytes short) (short_may held sound))
 
-admits_shown : (member : Member) → admits member (shown member) ≡ true
+pub admits_shown : (member : Member) → admits member (shown member) ≡ true
 admits_shown Gone = refl
 admits_shown (Exactly bytes) = bytes_eq-refl bytes
 admits_shown Anything = refl
 
-short_shown : (member : Member) → is_short_member member ≡ true → is_short_content (shown member) ≡ true
+pub short_shown : (member : Member) → is_short_member member ≡ true → is_short_content (shown member) ≡ true
 short_shown Gone short = refl
 short_shown (Exactly bytes) short = short
 short_shown Anything short = refl
@@ -92,7 +92,7 @@ chosen : (test : Bool) (first second : Held) → is_sound first ≡ true → is_
 chosen true first second one other = one
 chosen false first second one other = other
 
-chosen_if : (test : Bool) (first second : Held) → (test ≡ true → is_sound first ≡ true) → is_sound second ≡ true → is_sound (if test then first else second) ≡ true
+pub chosen_if : (test : Bool) (first second : Held) → (test ≡ true → is_sound first ≡ true) → is_sound second ≡ true → is_sound (if test then first else second) ≡ true
 chosen_if true first second one other = one refl
 chosen_if false first second one other = other
 

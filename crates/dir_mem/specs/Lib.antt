@@ -1,9 +1,11 @@
 pub mod Effects
 pub mod Facts
 pub mod Failing
+pub mod Images
 pub mod Laws
 pub mod Lending
 pub mod Log
+pub mod Looking
 pub mod Memory
 pub mod Sound
 pub mod Traces

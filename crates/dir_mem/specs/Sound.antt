@@ -1,11 +1,13 @@
 -- What holds of each directory in memory: of its state, of the paths that it has heard of, and of what it has lent.
-use Rattle.std.specs.Prelude.{◌≡◌, ℕ, ◌^◌, Bool, true, false, ◌&&◌, ◌||◌, List, [], ◌∷◌, length, map, Some, None, is_some, is_none, nat_le}
+use Rattle.std.specs.Prelude.{◌≡◌, ℕ, ◌^◌, Bool, true, false, ◌&&◌, ◌||◌, List, [], ◌∷◌, length, map, take, Some, None, is_some, is_none, nat_le}
 use Rattle.std.specs.List.{list_any, list_all}
 use Rattle.std.specs.Str.{bytes_eq}
 use Rattle.peg_base.specs.Names.{Names, same_path}
 use Rattle.dir_disk.specs.State.{Member, Gone, Exactly, Anything, Content, Held, State}
 use Rattle.dir_disk.specs.Lent.{Loan}
+use Rattle.dir_mem.specs.declared.log.Step.{Step}
 use Rattle.dir_mem.specs.declared.mem_dir.Lending.{Lending}
+use Rattle.dir_mem.specs.Log.{state_of}
 
 -- the member admits the content
 abbrev pub admits : Member → Content → Bool
@@ -73,3 +75,17 @@ LendsOpen lent state = list_all (λ lending. is_open_end (state lending.output))
 -- what is lent, as the paths of children
 abbrev pub loans_of : List Lending → List Loan
 loans_of = map (λ lending. record { input = lending.input; output = lending.output })
+
+abbrev pub has_name : Names → Bool
+has_name [] = false
+has_name path = true
+
+-- what the path holds is sound; it is absent where the path isn't listed, or has no name
+abbrev pub is_fine : List Names → Names → Held → Bool
+is_fine paths path held =
+    is_sound held && ((is_listed paths path || is_absent held) && (has_name path || is_absent held))
+
+-- so it was after each step
+abbrev pub WasFine : List Names → List Step → Type 0
+WasFine paths steps =
+    (place : ℕ) (path : Names) → is_fine paths path (state_of (take place steps) path) ≡ true

@@ -15,7 +15,7 @@ use peg_text::NoMemory;
 use std::alloc::Global;
 
 /// The content again.
-fn copied(alloc: Global, content: Option<&[u8]>) -> Result<Option<Vec<u8>>, NoMemory>
+pub(crate) fn copied(alloc: Global, content: Option<&[u8]>) -> Result<Option<Vec<u8>>, NoMemory>
     ensures { IfOk result (λ copy. option_map (λ bytes. bytes.items) copy ≡ content_of content.entry) }
 {
     match content {

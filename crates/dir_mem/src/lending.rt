@@ -1,11 +1,12 @@
-ghost use Rattle.std.specs.Prelude.{◌≡◌, [], ◌∷◌, ◌++◌, true, IfOk, IfSome, OnOk, OnErr};
-ghost use Rattle.dir_mem.specs.Sound.{is_listed};
+ghost use Rattle.std.specs.Prelude.{◌≡◌, ◌^◌, ◌≤◌, ◌&&◌, [], ◌∷◌, ◌++◌, length, option_map, IfOk, IfSome, OnOk, OnErr};
+ghost use Rattle.std.specs.List.{position};
+ghost use Rattle.peg_base.specs.Names.{same_path};
 ghost use Rattle.dir_disk.specs.Lent.{IsFree, IsNoOutput};
 ghost use Rattle.dir_disk.specs.Moments.{AddsBy, files};
-ghost use Rattle.dir_mem.specs.Lending.{CanLend, after_lend};
+ghost use Rattle.dir_mem.specs.Lending.{CanLend, IsLent, TakesOff, after_lend, after_loan};
 
 use crate::effects::lend_of;
-use crate::log::list_path;
+use crate::log::Change;
 use crate::mem_dir::{Lending, MemDir};
 use peg_base::Path;
 use peg_text::NoMemory;
@@ -40,6 +41,7 @@ impl MemDir {
         ensures state { OnOk result
             (files (told_of self.new) ≡ after_lend output.now (files (told_of self.old))) }
         ensures lent { IfOk result (λ loan. lent_of self.new ≡ lent_of self.old ++ loan ∷ []) }
+        ensures is_lent { IfOk result (λ loan. IsLent loan (lent_of self.new)) }
         ensures err { OnErr result (told_of self.new ≡ told_of self.old) }
         ensures err_lent { OnErr result (lent_of self.new ≡ lent_of self.old) }
         ensures fail { fail_of self.new ≡ fail_of self.old }
@@ -54,20 +56,37 @@ impl MemDir {
             output: output.copy(alloc)?,
         };
         let change = lend_of(alloc, &self.steps, output)?;
-        self.list_output(alloc, output)?;
+        self.list_one(alloc, output)?;
         self.add_loan(change, lending)?;
         Ok(loan)
     }
 
-    /// Lists the path of an output.
-    fn list_output(&mut self, alloc: Global, output: &Path) -> Result<(), NoMemory>
-        ensures steps { self.new.steps ≡ self.old.steps }
-        ensures lent { self.new.lent ≡ self.old.lent }
-        ensures calls { self.new.calls ≡ self.old.calls }
-        ensures fail { self.new.fail ≡ self.old.fail }
-        ensures faults { self.new.faults ≡ self.old.faults }
-        ensures listed { OnOk result (is_listed self.new.paths.items output.now ≡ true) }
+    /// Ends a loan: its child has left this at the output, or no file. What a stop may leave there is as before. It is no
+    /// numbered call, and takes no memory.
+    pub fn end_loan(&mut self, loan: Loan, left: Option<Vec<u8>>)
+        requires lent { IsLent loan (lent_of self.old) }
+        requires short { IfSome left (λ bytes. length bytes.items ≤ 2 ^ 50) }
+        ensures step { AddsBy 0 (told_of self.old) (told_of self.new) }
+        ensures state { files (told_of self.new)
+            ≡ after_loan loan.output (option_map (λ bytes. bytes.items) left) (files (told_of self.old)) }
+        ensures lent { TakesOff loan (lent_of self.old) (lent_of self.new) }
+        ensures fail { fail_of self.new ≡ fail_of self.old }
+        ensures faults { faults_of self.new ≡ faults_of self.old }
     {
-        list_path(alloc, &mut self.paths, output)
+        let place = place_of(&self.lent, &loan).unwrap();
+        let change = Change {
+            path: loan.output,
+            now: left,
+            may: None,
+        };
+        self.end_at(place, change);
     }
+}
+
+/// The place of the loan among what is lent.
+fn place_of(lent: &[Lending], loan: &Loan) -> Option<usize>
+    ensures { result
+        ≡ position (λ lending. same_path lending.input loan.now.input && same_path lending.output loan.now.output) lent.now }
+{
+    lent.iter().position(|lending| lending.input == loan.input && lending.output == loan.output)
 }

@@ -1,7 +1,7 @@
-ghost use Rattle.std.specs.Prelude.{◌≡◌, true, false, None, option_map, OnOk};
+ghost use Rattle.std.specs.Prelude.{◌≡◌, ◌≤◌, true, false, None, option_map, OnOk};
 ghost use Rattle.std.specs.Option.{option_copied};
 ghost use Rattle.dir_mem.specs.Traces.{content_of, may_of, members_of};
-ghost use Rattle.dir_mem.specs.Log.{change_at, changes_of, state_of, traces_at};
+ghost use Rattle.dir_mem.specs.Log.{change_at, changes_of, count_of, state_of, traces_at};
 ghost use Rattle.peg_base.specs.Names.{Names};
 ghost use Rattle.dir_mem.specs.Sound.{is_listed};
 
@@ -36,6 +36,17 @@ impl Step {
         match self {
             Step::Call(changes) => changes.as_slice(),
             Step::Between(change) => slice::from_ref(change),
+        }
+    }
+
+    /// How many calls the step is.
+    pub(crate) fn count(&self) -> u64
+        ensures value { result ≡ count_of self.now }
+        ensures one { result ≤ 1 }
+    {
+        match self {
+            Step::Call(_) => 1,
+            Step::Between(_) => 0,
         }
     }
 }

@@ -1,7 +1,8 @@
-ghost use Rattle.std.specs.Prelude.{◌≡◌, ◌≢◌, ◌+◌, ◌≤◌, [], ◌∷◌, ◌++◌, false, None, Err, OnOk, OnErr, IfErr, IsErrOf};
+ghost use Rattle.std.specs.Prelude.{◌≡◌, ◌≢◌, ◌+◌, ◌<◌, ◌≤◌, [], ◌∷◌, ◌++◌, true, false, None, Err, OnOk, OnErr, IfErr, IsErrOf};
+ghost use Rattle.std.specs.List.{remove};
 ghost use Rattle.std.specs.Vec.{vec_len, vec_capacity};
 ghost use Rattle.dir_mem.specs.Log.{AddsStep, after_changes, calls_of, change_at, state_of};
-ghost use Rattle.dir_mem.specs.Sound.{HasNoTop, IsSoundState, LendsOpen, ListsAll, is_listed, loans_of};
+ghost use Rattle.dir_mem.specs.Sound.{HasNoTop, IsSoundState, LendsOpen, ListsAll, WasFine, is_listed, loans_of};
 ghost use Rattle.peg_base.specs.Names.{Names};
 ghost use Rattle.dir_disk.specs.Lent.{IsFree};
 ghost use Rattle.dir_mem.specs.Effects.{after_break};
@@ -10,7 +11,7 @@ ghost use Rattle.dir_mem.specs.Failing.{FailsWhen, is_named};
 ghost use Rattle.dir_disk.specs.Causes.{Rose};
 
 use crate::effects::{appending, breaking};
-use crate::log::{Change, Step, list_paths};
+use crate::log::{Change, Step, list_path, list_paths};
 use dir_disk::DirFault;
 use peg_base::Path;
 use peg_text::NoMemory;
@@ -41,6 +42,7 @@ pub struct MemDir {
     ghost no_top: { HasNoTop (state_of steps.items) },
     ghost listed: { ListsAll paths.items (state_of steps.items) },
     ghost open_ends: { LendsOpen lent.items (state_of steps.items) },
+    ghost past: { WasFine paths.items steps.items },
     ghost room: { vec_len steps + vec_len lent ≤ vec_capacity steps },
 }
 
@@ -85,6 +87,41 @@ impl MemDir {
         Ok(())
     }
 
+    /// Adds a change between two calls, while nothing is lent; the path is listed.
+    pub(crate) fn add_change(&mut self, change: Change) -> Result<(), NoMemory>
+        requires sound { IsSoundState (after_changes (change ∷ []) (state_of self.old.steps.items)) }
+        requires no_top { HasNoTop (after_changes (change ∷ []) (state_of self.old.steps.items)) }
+        requires listed { ListsAll self.old.paths.items (after_changes (change ∷ []) (state_of self.old.steps.items)) }
+        requires lent { self.old.lent.items ≡ [] }
+        ensures ok { OnOk result (AddsStep 0 self.old.steps.items self.new.steps.items
+            (after_changes (change ∷ []) (state_of self.old.steps.items))) }
+        ensures lent { self.new.lent.items ≡ [] }
+        ensures faults { self.new.faults ≡ self.old.faults }
+        ensures fail { self.new.fail ≡ self.old.fail }
+    {
+        self.steps.reserve(self.lent.len() + 1)?;
+        self.steps.push(Step::Between(change)).unwrap();
+        Ok(())
+    }
+
+    /// Takes a loan off what is lent, with what its end makes of the output. There is room for that since it was lent.
+    pub(crate) fn end_at(&mut self, place: usize, change: Change)
+        requires within { place < vec_len self.old.lent }
+        requires sound { IsSoundState (after_changes (change ∷ []) (state_of self.old.steps.items)) }
+        requires no_top { HasNoTop (after_changes (change ∷ []) (state_of self.old.steps.items)) }
+        requires listed { ListsAll self.old.paths.items (after_changes (change ∷ []) (state_of self.old.steps.items)) }
+        requires open_ends { LendsOpen (remove self.old.lent.items place)
+            (after_changes (change ∷ []) (state_of self.old.steps.items)) }
+        ensures step { AddsStep 0 self.old.steps.items self.new.steps.items
+            (after_changes (change ∷ []) (state_of self.old.steps.items)) }
+        ensures lent { self.new.lent.items ≡ remove self.old.lent.items place }
+        ensures faults { self.new.faults ≡ self.old.faults }
+        ensures fail { self.new.fail ≡ self.old.fail }
+    {
+        self.lent.remove(place);
+        self.steps.push(Step::Between(change)).unwrap();
+    }
+
     /// Lists the paths of these changes.
     fn list(&mut self, alloc: Global, changes: &[Change]) -> Result<(), NoMemory>
         ensures steps { self.new.steps ≡ self.old.steps }
@@ -96,6 +133,18 @@ impl MemDir {
             ((path : Names) → is_listed self.new.paths.items path ≡ false → change_at changes.now path ≡ None) }
     {
         list_paths(alloc, &mut self.paths, changes)
+    }
+
+    /// Lists the path.
+    pub(crate) fn list_one(&mut self, alloc: Global, path: &Path) -> Result<(), NoMemory>
+        ensures steps { self.new.steps ≡ self.old.steps }
+        ensures lent { self.new.lent ≡ self.old.lent }
+        ensures calls { self.new.calls ≡ self.old.calls }
+        ensures fail { self.new.fail ≡ self.old.fail }
+        ensures faults { self.new.faults ≡ self.old.faults }
+        ensures listed { OnOk result (is_listed self.new.paths.items path.now ≡ true) }
+    {
+        list_path(alloc, &mut self.paths, path)
     }
 
     /// Whether the next call is one of those that are to fail.

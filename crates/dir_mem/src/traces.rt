@@ -1,6 +1,8 @@
 ghost use Rattle.std.specs.Prelude.{◌≡◌, [], ◌∷◌, IfOk};
 ghost use Rattle.dir_disk.specs.State.{Gone, just};
-ghost use Rattle.dir_mem.specs.Traces.{content_of, may_of, member_of, members_of, newest};
+ghost use Rattle.dir_mem.specs.Traces.{content_of, may_of, member_of, members_of, newest, shown};
+ghost use Rattle.dir_mem.specs.Images.{oldest};
+ghost use Rattle.dir_mem.specs.Looking.{is_gone};
 
 use peg_text::NoMemory;
 use std::alloc::Global;
@@ -20,6 +22,13 @@ pub(crate) enum Trace {
 }
 
 impl Trace {
+    /// Whether the trace is that of no file.
+    pub(crate) fn is_no_file(&self) -> bool
+        ensures { result ≡ is_gone (member_of self.now) }
+    {
+        matches!(self, Trace::NoFile)
+    }
+
     /// The same trace again.
     fn copy(&self, alloc: Global) -> Result<Trace, NoMemory>
         ensures { IfOk result (λ trace. member_of trace ≡ member_of self.now) }
@@ -73,13 +82,27 @@ pub(crate) fn with_newest(
     Ok(may)
 }
 
-/// What the newest trace shows.
-pub(crate) fn newest(may: Option<&[Trace]>) -> Option<&[u8]>
-    ensures { content_of result ≡ newest (may_of may.entry) }
+/// What a trace shows; any file is one of `garbage\n`.
+fn shown(trace: &Trace) -> Option<&[u8]>
+    ensures { content_of result ≡ shown (member_of trace.now) }
 {
-    match may?.first()? {
+    match trace {
         Trace::NoFile => None,
         Trace::Bytes(bytes) => Some(bytes.as_slice()),
         Trace::AnyFile => Some(GARBAGE),
     }
+}
+
+/// What the newest trace shows.
+pub(crate) fn newest(may: Option<&[Trace]>) -> Option<&[u8]>
+    ensures { content_of result ≡ newest (may_of may.entry) }
+{
+    shown(may?.first()?)
+}
+
+/// What the oldest trace shows.
+pub(crate) fn oldest(may: Option<&[Trace]>) -> Option<&[u8]>
+    ensures { content_of result ≡ oldest (may_of may.entry) }
+{
+    shown(may?.last()?)
 }

@@ -4,6 +4,7 @@ use Rattle.dir_mem.specs.declared.log.Step.{Step}
 use Rattle.dir_mem.specs.declared.log.Step.TheVariants.{Call}
 use Rattle.dir_mem.specs.Log.{state_of, after_changes, calls_of}
 use Rattle.dir_mem.specs.Sound.{IsSoundState, HasNoTop, ListsAll, LendsOpen}
+use Rattle.dir_mem.proofs.PastLemmas.{past_push}
 use Rattle.dir_mem.proofs.LogLemmas.{state_push, calls_push, calls_le, adds_push}
 use Rattle.dir_mem.proofs.mem_dir.MemDir.add_call.Goals as goal
 use Rattle.dir_mem.proofs.mem_dir.MemDir.add_call.Goals.{In_ok-push}
@@ -35,5 +36,6 @@ invariant_of-self-2 c =
       no_top = subst HasNoTop (sym state) c.requires.no_top;
       listed = subst (ListsAll c.args.self.now.paths.items) (sym state) c.requires.listed;
       open_ends = subst (LendsOpen c.args.self.now.lent.items) (sym state) c.requires.open_ends;
+      past = past_push c.args.self.now.paths.items old c.push.new.self.items step items c.args.self.now.past (subst IsSoundState (sym state) c.requires.sound) (subst HasNoTop (sym state) c.requires.no_top) (subst (ListsAll c.args.self.now.paths.items) (sym state) c.requires.listed);
       room = omega (arith, c.in_ok-push.ensures.len, c.in_ok-reserve.ensures.ok, c.in_ok-push.ensures.capacity, c.in_ok-reserve.ensures.len, c.len.ensures);
     }

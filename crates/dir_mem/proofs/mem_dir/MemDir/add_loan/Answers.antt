@@ -7,6 +7,7 @@ use Rattle.dir_mem.specs.Log.{state_of, after_changes, calls_of}
 use Rattle.dir_mem.specs.Sound.{IsSoundState, HasNoTop, ListsAll, LendsOpen}
 use Rattle.std.specs.Prelude.{is_ok}
 use Rattle.dir_mem.proofs.EffectLemmas.{if_true}
+use Rattle.dir_mem.proofs.PastLemmas.{past_push}
 use Rattle.dir_mem.proofs.LogLemmas.{state_push, calls_push, adds_push}
 use Rattle.dir_mem.proofs.mem_dir.MemDir.add_loan.Goals as goal
 
@@ -30,5 +31,6 @@ invariant_of-self-2 c =
       no_top = subst HasNoTop (sym state) c.requires.no_top;
       listed = subst (ListsAll c.args.self.now.paths.items) (sym state) c.requires.listed;
       open_ends = subst (λ (ls : List Lending). LendsOpen ls (state_of c.push.new.self.items)) (sym lent) (subst (LendsOpen (c.args.self.now.lent.items ++ c.args.lending ∷ [])) (sym state) c.requires.open_ends);
+      past = past_push c.args.self.now.paths.items old c.push.new.self.items step items c.args.self.now.past (subst IsSoundState (sym state) c.requires.sound) (subst HasNoTop (sym state) c.requires.no_top) (subst (ListsAll c.args.self.now.paths.items) (sym state) c.requires.listed);
       room = omega (arith, c.in_ok-push.ensures.len, c.in_ok-reserve-2.ensures.ok, c.in_ok-push.ensures.capacity, c.in_ok-reserve-2.ensures.len, c.push-2.ensures.upper_bound, c.in_ok-reserve.ensures.len, c.len.ensures);
     }

@@ -1,0 +1,10 @@
+use Rattle.std.proofs.Common.{List, ◌∙◌, sym, subst}
+use Rattle.dir_disk.specs.Lent.{IsFree}
+use Rattle.dir_mem.specs.declared.mem_dir.Lending.{Lending}
+use Rattle.dir_mem.specs.Sound.{loans_of}
+use Rattle.dir_mem.proofs.LookLemmas.{free_all}
+use Rattle.dir_mem.proofs.mem_dir.MemDir.is_free.Goals as goal
+
+pub returns : goal.returns
+returns c = λ is.
+    subst (λ (l : List Lending). IsFree (loans_of l) c.args.path.now) c.deref.ensures.value (free_all c.deref.result.now c.args.path.now (sym c.is_free.ensures ∙ is))
