@@ -1,0 +1,4 @@
+pub mod GroupLemmas
+pub mod HandingLemmas
+pub mod FeedingLemmas
+pub mod RunLemmas

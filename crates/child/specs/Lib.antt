@@ -1,0 +1,6 @@
+pub mod Statuses
+pub mod Words
+pub mod Judging
+pub mod Handing
+pub mod Feeding
+pub mod Child

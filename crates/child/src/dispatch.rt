@@ -1,0 +1,141 @@
+ghost use Rattle.std.specs.Prelude.{◌≡◌, ◌≢◌, ◌↔◌, ◌≤◌, ◌⊎◌, ℕ, None, IfSome, map};
+ghost use Rattle.std.specs.String.{string_bytes};
+ghost use Rattle.dir_disk.specs.Causes.{Rose};
+ghost use Rattle.child.specs.Child.{IsDone, IsFirstBad, IsStreamed, WritesPart};
+ghost use Rattle.child.specs.Judging.{AreTooMany};
+ghost use Rattle.child.specs.Words.{HasNodes, rule_of, rule_of_kind, rule_of_node_role, rule_over_nodes};
+
+use crate::run::run_role;
+use crate::status::ChildStatus;
+use crate::words::{Algorithm, Kind, NodeRole, read_kind};
+use dir_disk::{Sink, Source};
+use gimv_base::{
+    DegreesRole, EntriesRole, FirstRole, IdRole, NumberRole, PlaceRole, Stage1, Stage2,
+};
+use gimv_core::Gimv;
+use hadi::Hadi;
+use hcc::Hcc;
+use pagerank::PageRank;
+use std::alloc::Global;
+
+/// Runs the role that the words name over all that the source has left.
+///
+/// It reads pieces of at most 65,536 bytes, and writes what the complete groups of one piece give before it reads the
+/// next. A group is a longest run of records with the same key. A record that is bad, or a byte beyond 2^50, ends it; what
+/// was written then is a front of what the role gives.
+pub fn run_child<I: Source, O: Sink>(
+    alloc: Global,
+    words: &[String],
+    source: &mut I,
+    sink: &mut O,
+) -> ChildStatus
+    // All is read and written, unless the words, the records, the bytes, a stream or the memory are at fault.
+    ensures done { result ≡ ChildStatus.Ok → IfSome (rule_of (map string_bytes words.now)) (λ rule.
+        IsDone rule (I.left source.old) (I.left source.new) (O.written sink.old) (O.written sink.new)) }
+    ensures usage { (result ≡ ChildStatus.Usage) ↔ (rule_of (map string_bytes words.now) ≡ None) }
+    ensures bad { (line : ℕ) → result ≡ ChildStatus.BadLine line → IfSome (rule_of (map string_bytes words.now)) (λ rule.
+        IfSome (I.left source.old) (λ bytes. IsFirstBad rule bytes line)) }
+    ensures too_large { result ≡ ChildStatus.TooLarge → IfSome (rule_of (map string_bytes words.now)) (λ rule.
+        IfSome (I.left source.old) (AreTooMany rule)) }
+    ensures fault { result ≡ ChildStatus.Fault
+        → Rose (I.faults source.old) (I.faults source.new) ⊎ Rose (O.faults sink.old) (O.faults sink.new) }
+
+    // What is written at any answer, and what is read ahead of it.
+    ensures part { IfSome (rule_of (map string_bytes words.now)) (λ rule.
+        WritesPart rule (I.left source.old) (O.written sink.old) (O.written sink.new)) }
+    ensures stream { IfSome (rule_of (map string_bytes words.now)) (λ rule.
+        IsStreamed rule (I.left source.old) (I.left source.new) (O.written sink.old) (O.written sink.new)) }
+    ensures untouched { result ≡ ChildStatus.Usage → (source.new ≡ source.old) × (sink.new ≡ sink.old) }
+    ensures later { (I.faults source.old ≤ I.faults source.new) × (O.faults sink.old ≤ O.faults sink.new) }
+{
+    match read_kind(words) {
+        Some(kind) => run_kind(alloc, kind, source, sink),
+        None => ChildStatus::Usage,
+    }
+}
+
+/// Runs a role.
+fn run_kind<I: Source, O: Sink>(
+    alloc: Global,
+    kind: Kind,
+    source: &mut I,
+    sink: &mut O,
+) -> ChildStatus
+    requires { HasNodes kind }
+    ensures done { result ≡ ChildStatus.Ok → IsDone (rule_of_kind kind) (I.left source.old) (I.left source.new) (O.written sink.old) (O.written sink.new) }
+    ensures bad { (line : ℕ) → result ≡ ChildStatus.BadLine line → IfSome (I.left source.old) (λ bytes. IsFirstBad (rule_of_kind kind) bytes line) }
+    ensures too_large { result ≡ ChildStatus.TooLarge → IfSome (I.left source.old) (AreTooMany (rule_of_kind kind)) }
+    ensures fault { result ≡ ChildStatus.Fault → Rose (I.faults source.old) (I.faults source.new) ⊎ Rose (O.faults sink.old) (O.faults sink.new) }
+    ensures known { result ≢ ChildStatus.Usage }
+    ensures part { WritesPart (rule_of_kind kind) (I.left source.old) (O.written sink.old) (O.written sink.new) }
+    ensures stream { IsStreamed (rule_of_kind kind) (I.left source.old) (I.left source.new) (O.written sink.old) (O.written sink.new) }
+    ensures later { (I.faults source.old ≤ I.faults source.new) × (O.faults sink.old ≤ O.faults sink.new) }
+{
+    match kind {
+        Kind::Id => run_role(alloc, IdRole::new(), source, sink),
+        Kind::Entries { both } => run_role(alloc, EntriesRole::new(both), source, sink),
+        Kind::Degrees => run_role(alloc, DegreesRole::new(alloc), source, sink),
+        Kind::Place => run_role(alloc, PlaceRole::new(alloc), source, sink),
+        Kind::Nodes {
+            role,
+            algorithm,
+            nodes,
+        } => run_over_nodes(alloc, role, algorithm, nodes, source, sink),
+    }
+}
+
+/// Runs a role over the nodes of an algorithm.
+fn run_over_nodes<I: Source, O: Sink>(
+    alloc: Global,
+    role: NodeRole,
+    algorithm: Algorithm,
+    nodes: u32,
+    source: &mut I,
+    sink: &mut O,
+) -> ChildStatus
+    requires { 1 ≤ nodes }
+    ensures done { result ≡ ChildStatus.Ok → IsDone (rule_over_nodes role algorithm nodes) (I.left source.old) (I.left source.new) (O.written sink.old) (O.written sink.new) }
+    ensures bad { (line : ℕ) → result ≡ ChildStatus.BadLine line → IfSome (I.left source.old) (λ bytes. IsFirstBad (rule_over_nodes role algorithm nodes) bytes line) }
+    ensures too_large { result ≡ ChildStatus.TooLarge → IfSome (I.left source.old) (AreTooMany (rule_over_nodes role algorithm nodes)) }
+    ensures fault { result ≡ ChildStatus.Fault → Rose (I.faults source.old) (I.faults source.new) ⊎ Rose (O.faults sink.old) (O.faults sink.new) }
+    ensures known { result ≢ ChildStatus.Usage }
+    ensures part { WritesPart (rule_over_nodes role algorithm nodes) (I.left source.old) (O.written sink.old) (O.written sink.new) }
+    ensures stream { IsStreamed (rule_over_nodes role algorithm nodes) (I.left source.old) (I.left source.new) (O.written sink.old) (O.written sink.new) }
+    ensures later { (I.faults source.old ≤ I.faults source.new) × (O.faults sink.old ≤ O.faults sink.new) }
+{
+    match algorithm {
+        Algorithm::Hcc => run_node_role(alloc, role, Hcc::new(), nodes, source, sink),
+        Algorithm::PageRank => {
+            run_node_role(alloc, role, PageRank::new(nodes), nodes, source, sink)
+        }
+        Algorithm::Hadi { seed } => {
+            run_node_role(alloc, role, Hadi::new(seed), nodes, source, sink)
+        }
+    }
+}
+
+/// Runs a role over the nodes of this algorithm.
+fn run_node_role<G: Gimv + Drop, I: Source, O: Sink>(
+    alloc: Global,
+    role: NodeRole,
+    algorithm: G,
+    nodes: u32,
+    source: &mut I,
+    sink: &mut O,
+) -> ChildStatus
+    ensures done { result ≡ ChildStatus.Ok → IsDone (rule_of_node_role role (G.algebra algorithm) nodes) (I.left source.old) (I.left source.new) (O.written sink.old) (O.written sink.new) }
+    ensures bad { (line : ℕ) → result ≡ ChildStatus.BadLine line → IfSome (I.left source.old) (λ bytes. IsFirstBad (rule_of_node_role role (G.algebra algorithm) nodes) bytes line) }
+    ensures too_large { result ≡ ChildStatus.TooLarge → IfSome (I.left source.old) (AreTooMany (rule_of_node_role role (G.algebra algorithm) nodes)) }
+    ensures fault { result ≡ ChildStatus.Fault → Rose (I.faults source.old) (I.faults source.new) ⊎ Rose (O.faults sink.old) (O.faults sink.new) }
+    ensures known { result ≢ ChildStatus.Usage }
+    ensures part { WritesPart (rule_of_node_role role (G.algebra algorithm) nodes) (I.left source.old) (O.written sink.old) (O.written sink.new) }
+    ensures stream { IsStreamed (rule_of_node_role role (G.algebra algorithm) nodes) (I.left source.old) (I.left source.new) (O.written sink.old) (O.written sink.new) }
+    ensures later { (I.faults source.old ≤ I.faults source.new) × (O.faults sink.old ≤ O.faults sink.new) }
+{
+    match role {
+        NodeRole::First => run_role(alloc, FirstRole::new(algorithm, nodes), source, sink),
+        NodeRole::Stage1 => run_role(alloc, Stage1::new(alloc, algorithm, nodes), source, sink),
+        NodeRole::Stage2 => run_role(alloc, Stage2::new(alloc, algorithm, nodes), source, sink),
+        NodeRole::Number => run_role(alloc, NumberRole::new(algorithm, nodes), source, sink),
+    }
+}

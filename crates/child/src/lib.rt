@@ -1,0 +1,13 @@
+//! The child program of a streaming job: the role that its words name, over a source and a sink, piece by piece.
+#![tactic(auto)]
+
+mod dispatch;
+mod feeding;
+mod run;
+mod status;
+#[cfg(test)]
+mod tests;
+mod words;
+
+pub use dispatch::run_child;
+pub use status::ChildStatus;

@@ -1,0 +1,91 @@
+//! `pegchild ROLE ..`: a role over the lines of standard input, for any streaming runner that sorts lines between its
+//! mapper and its reducer.
+#![tactic(auto)]
+
+use child::{ChildStatus, run_child};
+use host_real::{HeldStreams, StdSink, StdSource, WordsFault, program_words};
+use peg_text::NoMemory;
+use std::alloc::Global;
+use std::process::ExitCode;
+
+const HELP: &str = "\
+pegchild: one role of a streaming job, from standard input to standard output
+
+usage: pegchild ROLE [WORD ..]
+
+id                    each line as it is
+entries one           an edge `s TAB t` as the entry `t TAB W s 1`
+entries both          the same, and then `s TAB W t 1`
+degrees               edges in groups of one source s: `s TAB W t d` for each, d edges in all
+first ALG N           `p TAB P i` as the first value of node i: `p TAB V 1 value`
+stage1 ALG N          groups of one `j TAB V c value`, then `j TAB W r m`: the value, and then `r TAB Y message` for each W
+stage2 ALG N          groups of one `i TAB V c value`, then `i TAB Y message`: the new value, with c 0 where it is the same
+number ALG N          `i TAB V c value` as `i TAB number`
+place                 groups of `p TAB P i` and `p TAB Q number`: `i TAB number`
+
+ALG is hcc, pagerank or hadi=SEED, and N is the number of nodes, 1 to 1073741824.
+A group is a run of lines with the same text before the first TAB.
+The status is 0, or 2 for other words, 65 for a bad line, 66 for more than 2^50 bytes, 70 for want of memory, and 74
+where a stream failed.
+
+pegchild --help and pegchild --version print this and the version.
+";
+
+const VERSION: &str = "pegchild 0.1.0\n";
+
+/// What the program prints in place of a run, where its only word asks for it.
+fn printed_instead(words: &[String]) -> Option<&'static str> {
+    match words {
+        [only] if only.as_str() == "--help" => Some(HELP),
+        [only] if only.as_str() == "--version" => Some(VERSION),
+        _ => None,
+    }
+}
+
+/// The line that tells of a fault, with its LF; nothing where there was none.
+fn fault_line(alloc: Global, status: ChildStatus) -> Result<Vec<u8>, NoMemory> {
+    match status {
+        ChildStatus::Ok => Ok(Vec::new(alloc)),
+        ChildStatus::Usage => Ok(Vec::from_slice(
+            alloc,
+            b"pegchild: no role has these words (pegchild --help lists them)\n",
+        )?),
+        ChildStatus::BadLine { line } => {
+            Ok(format!(in alloc; "pegchild: bad line {line}\n")?.into_bytes())
+        }
+        ChildStatus::TooLarge => Ok(Vec::from_slice(alloc, b"pegchild: input too large\n")?),
+        ChildStatus::NoMemory => Ok(Vec::from_slice(alloc, b"pegchild: no memory\n")?),
+        ChildStatus::Fault => Ok(Vec::from_slice(alloc, b"pegchild: a stream failed\n")?),
+    }
+}
+
+/// Says what went wrong on standard error, and gives the exit code.
+fn finish(rt: &HostRuntime, alloc: Global, status: ChildStatus) -> ExitCode {
+    let told = match fault_line(alloc, status) {
+        Ok(line) => rt.stderr().write_all(&line),
+        Err(NoMemory) => rt.stderr().write_all(b"pegchild: no memory\n"),
+    };
+    // The exit code stands, whether or not someone listens.
+    let _ = told;
+    ExitCode::from(status.code())
+}
+
+fn main(rt: HostRuntime) -> ExitCode {
+    let alloc = rt.alloc();
+    let _held = HeldStreams::new(&rt);
+    let words = match program_words(&rt, alloc) {
+        Ok(words) => words,
+        Err(WordsFault::NotText { .. }) => return finish(&rt, alloc, ChildStatus::Usage),
+        Err(WordsFault::NoMemory) => return finish(&rt, alloc, ChildStatus::NoMemory),
+    };
+    if let Some(text) = printed_instead(&words) {
+        return match rt.stdout().write_all(text.as_bytes()) {
+            Ok(()) => ExitCode::SUCCESS,
+            Err(_) => finish(&rt, alloc, ChildStatus::Fault),
+        };
+    }
+    let mut source = StdSource::new(&rt);
+    let mut sink = StdSink::new(&rt);
+    let status = run_child(alloc, &words, &mut source, &mut sink);
+    finish(&rt, alloc, status)
+}
