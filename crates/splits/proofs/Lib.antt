@@ -1,0 +1,5 @@
+pub mod CopyLemmas
+pub mod CutLemmas
+pub mod LineLemmas
+pub mod StartLemmas
+pub mod TableLemmas

@@ -1,0 +1,5 @@
+pub mod Copying
+pub mod Faults
+pub mod Laws
+pub mod Lines
+pub mod Table

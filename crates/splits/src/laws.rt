@@ -1,0 +1,7 @@
+//! What the splits of a file are good for. Each function is a law that its contract states, and does nothing.
+ghost use Rattle.splits.specs.Laws.{SplitsCoverEachLineOnce};
+
+/// The lines of a file's splits, one split after the other, are the file's records.
+pub fn splits_cover_each_line_once()
+    ensures { SplitsCoverEachLineOnce }
+{}

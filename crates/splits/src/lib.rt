@@ -1,0 +1,16 @@
+//! Splits of a file, and the lines of each: every line of a file is a line of just one of its splits.
+#![tactic(auto)]
+
+mod copying;
+mod fault;
+pub mod laws;
+mod lines;
+mod start;
+mod table;
+
+pub use fault::SplitFault;
+pub use lines::lines_of_split;
+pub use table::{Split, split_table};
+
+#[cfg(test)]
+mod tests;
