@@ -1,0 +1,4 @@
+pub mod ChunkLemmas
+pub mod RunNames
+pub mod SpillLemmas
+pub mod WritingLemmas

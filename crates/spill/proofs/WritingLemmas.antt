@@ -1,0 +1,162 @@
+-- What appends leave of the files of runs.
+use Rattle.std.proofs.Common.{◌≡◌, ◌≢◌, ◌∙◌, ap, sym, refl, subst, ℕ, zero, suc, ◌+◌, ◌<◌, ◌≤◌, Bool, true, false, if◌then◌else◌, ◌⊎◌, inl, inr, ⊎_elim, List, [], ◌∷◌, ◌++◌, None, Some, Result, length, get_or, set, take, map, arith}
+use Rattle.std.proofs.lemmas.Bool.{false≢true, cases_Bool, cases_lt}
+use Rattle.std.proofs.lemmas.Grind.{flat_map-append}
+use Rattle.std.proofs.lemmas.List.{append_assoc, append-nil, map_more, get_or_past, get_or-set_same, get_or-set_other}
+use Rattle.std.specs.Borrow.{Bor}
+use Rattle.peg_text.specs.Pairs.{pair_line}
+use Rattle.peg_base.specs.Names.{Names, under, same_path}
+use Rattle.peg_base.proofs.Under.{under-refl, under-long, under-children, same_path_comm, same_path-refl, under-same}
+use Rattle.dir_disk.specs.declared.dir.DirFault.{DirFault}
+use Rattle.dir_disk.specs.State.{Content, Held, State, IsSound, StandsOutside, bytes_of, appended, after_append}
+use Rattle.dir_disk.specs.Calls.{Append, CanAppend, Does}
+use Rattle.dir_disk.specs.Moments.{Told, Through, Both, files}
+use Rattle.dir_disk.proofs.Steps.{Steps, stands_call, appended_at}
+use Rattle.dir_disk.proofs.Through.{started, goes_on, then_goes, keeps, kept, weaker}
+use Rattle.pairs.specs.Pairs.{Pair, pairs_text}
+use Rattle.spill.specs.Runs.{run_of, run_name, new_runs, IsVacant}
+use Rattle.spill.proofs.RunNames.{run_names_differ, children_apart, child_not_above}
+use Rattle.spill.specs.Chunks.{texts, gathered, HasItems, list_at, StandsBesideRun, StandsBesideLists, HasLists, AreListsVacant, AreNoted}
+
+-- ---- one file
+
+not_chosen : (test : Bool) (h k : Held) → test ≡ false → (if test then h else k) ≡ k
+not_chosen true h k fails = absurd (false≢true (sym fails))
+not_chosen false h k fails = refl
+
+not_appended : (path : Names) (bytes : List ℕ) (s : State) (q : Names) → same_path path q ≡ false → after_append path bytes s q ≡ s q
+not_appended path bytes s q other =
+    not_chosen (same_path path q) (appended bytes (s q)) (s q) other
+
+can_append_after : (path : Names) (bytes : List ℕ) (s : State) → CanAppend s path → CanAppend (after_append path bytes s) path
+can_append_after path bytes s can =
+    record {
+      named = can.named;
+      is_open = λ q above other. ap (λ (h : Held). h.now) (not_appended path bytes s q (same_path_comm path q ∙ other)) ∙ can.is_open q above other;
+      nothing_under = λ q below other. ap (λ (h : Held). h.now) (not_appended path bytes s q other) ∙ can.nothing_under q below other;
+    }
+
+pub can_append_on : (path : Names) (bytes : List ℕ) (s t : State) → CanAppend s path → t ≡ after_append path bytes s → CanAppend t path
+can_append_on path bytes s t can is =
+    subst (λ (u : State). CanAppend u path) (sym is) (can_append_after path bytes s can)
+
+-- what was gathered is in the file then
+pub gathered_after : (path : Names) (bytes : List ℕ) (s t : State) → t ≡ after_append path bytes s → (t path).now ≡ Some (gathered path s bytes)
+gathered_after path bytes s t is =
+    ap (λ (u : State). (u path).now) is ∙ ap (λ (h : Held). h.now) (appended_at path bytes s path (same_path-refl path))
+
+pub stands_start : (path : Names) (s : State) → StandsOutside path s s
+stands_start path s q apart = refl
+
+-- an append more to the file
+pub append_more : {T : Type 0} (path : Names) (bytes : List ℕ) (old mid new : Told) (result : Result T DirFault) → Through (Both (StandsOutside path (files old))) old mid → Does (Append path bytes) mid new result → IsSound (files mid) → Through (Both (StandsOutside path (files old))) old new
+append_more path bytes old mid new result so_far does sound =
+    let here : StandsOutside path (files old) (files mid) = kept (StandsOutside path (files old)) old mid so_far (stands_start path (files old)) in
+    goes_on (Both (StandsOutside path (files old))) old mid new (Append path bytes) result so_far does sound (λ t steps. (here, stands_call path (files old) (files mid) t (Append path bytes) here steps (λ q apart. apart)))
+
+-- more steps of the same kind
+pub stands_more : (path : Names) (old mid new : Told) → Through (Both (StandsOutside path (files old))) old mid → Through (Both (StandsOutside path (files mid))) mid new → Through (Both (StandsOutside path (files old))) old new
+stands_more path old mid new so_far more =
+    let here : StandsOutside path (files old) (files mid) = kept (StandsOutside path (files old)) old mid so_far (stands_start path (files old)) in
+    then_goes (Both (StandsOutside path (files old))) old mid new so_far (weaker (Both (StandsOutside path (files mid))) (Both (StandsOutside path (files old))) mid new (λ s t stands. (λ q apart. stands.0 q apart ∙ here q apart, λ q apart. stands.1 q apart ∙ here q apart)) more)
+
+-- ---- the paths of runs
+
+-- the paths of the runs of the first lists were added to their parts
+pub record NotedBelow (folder : Names) (flush : ℕ) (lists : List (List Pair)) (count : ℕ) (before after : List (List Names)) : Type 0 where
+  pub done : (part : ℕ) → part < count → get_or after part [] ≡ get_or before part [] ++ new_runs (run_of folder part flush) (list_at lists part)
+  pub others : (part : ℕ) → count ≤ part → get_or after part [] ≡ get_or before part []
+
+pub noted_none : (folder : Names) (flush : ℕ) (lists : List (List Pair)) (before : List (List Names)) → NotedBelow folder flush lists 0 before before
+noted_none folder flush lists before = record { done = λ part below. absurd (omega arith); others = λ part from. refl }
+
+pub noted_more : (folder : Names) (flush : ℕ) (lists : List (List Pair)) (count : ℕ) (before after : List (List Names)) (paths more : List Names) → NotedBelow folder flush lists count before after → count < length after → paths ≡ get_or after count [] → more ≡ paths ++ new_runs (run_of folder count flush) (list_at lists count) → NotedBelow folder flush lists (count + 1) before (set after count more)
+noted_more folder flush lists count before after paths more noted inside is_paths is_more =
+    record {
+      done = λ part below. ⊎_elim (λ (earlier : part < count). get_or-set_other after count part more [] (λ same. omega (arith, same)) ∙ noted.done part earlier) (λ (last : count ≤ part). let same : part ≡ count = omega arith in ap (λ (n : ℕ). get_or (set after count more) n []) same ∙ get_or-set_same after count more [] inside ∙ is_more ∙ ap (λ (ps : List Names). ps ++ new_runs (run_of folder count flush) (list_at lists count)) (is_paths ∙ noted.others count (omega arith)) ∙ ap (λ (n : ℕ). get_or before n [] ++ new_runs (run_of folder n flush) (list_at lists n)) (sym same)) (cases_lt part count);
+      others = λ part from. get_or-set_other after count part more [] (λ same. omega (arith, same)) ∙ noted.others part (omega arith);
+    }
+
+pub noted_all : (folder : Names) (flush : ℕ) (lists : List (List Pair)) (count : ℕ) (before after : List (List Names)) → length lists ≤ count → NotedBelow folder flush lists count before after → AreNoted folder flush lists before after
+noted_all folder flush lists count before after all noted part =
+    ⊎_elim (λ (below : part < count). noted.done part below) (λ (past : count ≤ part). noted.others part past ∙ sym (append-nil (get_or before part [])) ∙ ap (λ (ps : List Pair). get_or before part [] ++ new_runs (run_of folder part flush) ps) (sym (get_or_past lists part [] (omega arith)))) (cases_lt part count)
+
+-- ---- the pairs of one file
+
+abbrev text_of : Bor (List ℕ) × Bor (List ℕ) → Pair
+text_of s = (s.0.now, s.1.now)
+
+-- the text of one pair more
+texts_more : (slices : List (Bor (List ℕ) × Bor (List ℕ))) (i : ℕ) (d : Bor (List ℕ) × Bor (List ℕ)) → i < length slices → pairs_text (texts (take (i + 1) slices)) ≡ pairs_text (texts (take i slices)) ++ pair_line (get_or slices i d).0.now (get_or slices i d).1.now
+texts_more slices i d inside =
+    let p : Pair = text_of (get_or slices i d) in
+    ap pairs_text (map_more text_of slices i d inside) ∙ flat_map-append (λ (q : Pair). pair_line q.0 q.1) (texts (take i slices)) (p ∷ []) ∙ ap (λ (t : List ℕ). pairs_text (texts (take i slices)) ++ t) (append-nil (pair_line p.0 p.1))
+
+-- a pair was gathered, and maybe sent
+pub pair_sent : (path : Names) (s t : State) (piece line after : List ℕ) (slices : List (Bor (List ℕ) × Bor (List ℕ))) (i : ℕ) (d : Bor (List ℕ) × Bor (List ℕ)) → gathered path s piece ≡ pairs_text (texts (take i slices)) → i < length slices → line ≡ piece ++ pair_line (get_or slices i d).0.now (get_or slices i d).1.now → gathered path t after ≡ gathered path s line → gathered path t after ≡ pairs_text (texts (take (i + 1) slices))
+pair_sent path s t piece line after slices i d so_far inside is_line sent =
+    let more : List ℕ = pair_line (get_or slices i d).0.now (get_or slices i d).1.now in
+    sent ∙ ap (gathered path s) is_line ∙ sym (append_assoc (bytes_of (s path).now) piece more) ∙ ap (λ (t : List ℕ). t ++ more) so_far ∙ sym (texts_more slices i d inside)
+
+-- ---- the runs of all parts
+
+pub vacant_stands : (path : Names) (s t : State) → ((q : Names) → (under q path ≡ true) ⊎ (under path q ≡ true) → t q ≡ s q) → IsVacant path s → IsVacant path t
+vacant_stands path s t same vacant =
+    record {
+      can = record {
+        named = vacant.can.named;
+        is_open = λ q above other. ap (λ (h : Held). h.now) (same q (inl above)) ∙ vacant.can.is_open q above other;
+        nothing_under = λ q below other. ap (λ (h : Held). h.now) (same q (inr below)) ∙ vacant.can.nothing_under q below other;
+      };
+      none = ap (λ (h : Held). h.now) (same path (inr (under-refl path))) ∙ vacant.none;
+    }
+
+-- a run of another part stays vacant
+pub still_vacant : (folder : Names) (flush part other : ℕ) (pairs : List Pair) (s t : State) → part < 100000 → other < 100000 → part ≢ other → StandsBesideRun (run_of folder part flush) pairs s t → IsVacant (run_of folder other flush) s → IsVacant (run_of folder other flush) t
+still_vacant folder flush part other pairs s t small also differ stands vacant =
+    let names = run_names_differ part other flush small also differ in
+    vacant_stands (run_of folder other flush) s t (λ q near. stands q (λ some. ⊎_elim (λ (above : under q (run_of folder other flush) ≡ true). child_not_above folder (run_name part flush) (run_name other flush) q names above) (λ (below : under (run_of folder other flush) q ≡ true). children_apart folder (run_name other flush) (run_name part flush) q (λ same. names (sym same)) below) near)) vacant
+
+-- the runs of the first lists are written, and those of the others can be
+pub record WrittenBelow (folder : Names) (flush : ℕ) (lists : List (List Pair)) (count : ℕ) (state : State) : Type 0 where
+  pub done : (part : ℕ) → part < count → HasItems (list_at lists part) → (state (run_of folder part flush)).now ≡ Some (pairs_text (list_at lists part))
+  pub others : (part : ℕ) → count ≤ part → HasItems (list_at lists part) → IsVacant (run_of folder part flush) state
+
+pub has_place : (lists : List (List Pair)) (part : ℕ) → HasItems (list_at lists part) → part < length lists
+has_place lists part some =
+    ⊎_elim (λ (below : part < length lists). below) (λ (past : length lists ≤ part). absurd (some (get_or_past lists part [] past))) (cases_lt part (length lists))
+
+pub beside_start : (run : Names) (pairs : List Pair) (s : State) → StandsBesideRun run pairs s s
+beside_start run pairs s q apart = refl
+
+pub lists_start : (folder : Names) (flush : ℕ) (lists : List (List Pair)) (s : State) → StandsBesideLists folder flush lists s s
+lists_start folder flush lists s q apart = refl
+
+-- one run's steps, said of the list at its place
+own_run : (folder : Names) (flush part i : ℕ) (lists : List (List Pair)) (pairs : List Pair) (mid new : Told) → part ≡ i → pairs ≡ list_at lists i → Through (Both (StandsBesideRun (run_of folder part flush) pairs (files mid))) mid new → Through (Both (StandsBesideRun (run_of folder i flush) (list_at lists i) (files mid))) mid new
+own_run folder flush part i lists pairs mid new at_part is_pairs steps =
+    subst (λ (n : ℕ). Through (Both (StandsBesideRun (run_of folder n flush) (list_at lists i) (files mid))) mid new) at_part (subst (λ (ps : List Pair). Through (Both (StandsBesideRun (run_of folder part flush) ps (files mid))) mid new) is_pairs steps)
+
+pub run_more : (folder : Names) (flush part i : ℕ) (lists : List (List Pair)) (pairs : List Pair) (old mid new : Told) → part ≡ i → pairs ≡ list_at lists i → Through (Both (StandsBesideLists folder flush lists (files old))) old mid → Through (Both (StandsBesideRun (run_of folder part flush) pairs (files mid))) mid new → Through (Both (StandsBesideLists folder flush lists (files old))) old new
+run_more folder flush part i lists pairs old mid new at_part is_pairs so_far steps =
+    let here : StandsBesideLists folder flush lists (files old) (files mid) = kept (StandsBesideLists folder flush lists (files old)) old mid so_far (lists_start folder flush lists (files old)) in
+    let own = own_run folder flush part i lists pairs mid new at_part is_pairs steps in
+    then_goes (Both (StandsBesideLists folder flush lists (files old))) old mid new so_far (weaker (Both (StandsBesideRun (run_of folder i flush) (list_at lists i) (files mid))) (Both (StandsBesideLists folder flush lists (files old))) mid new (λ s t stands. (λ q apart. stands.0 q (apart i) ∙ here q apart, λ q apart. stands.1 q (apart i) ∙ here q apart)) own)
+
+pub written_more : (folder : Names) (flush part i : ℕ) (lists : List (List Pair)) (pairs : List Pair) (mid new : Told) → length lists ≤ 100000 → i < length lists → part ≡ i → pairs ≡ list_at lists i → WrittenBelow folder flush lists i (files mid) → Through (Both (StandsBesideRun (run_of folder part flush) pairs (files mid))) mid new → (HasItems pairs → (files new (run_of folder part flush)).now ≡ Some (pairs_text pairs)) → WrittenBelow folder flush lists (i + 1) (files new)
+written_more folder flush part i lists pairs mid new few inside at_part is_pairs below steps written =
+    let own = own_run folder flush part i lists pairs mid new at_part is_pairs steps in
+    let stands : StandsBesideRun (run_of folder i flush) (list_at lists i) (files mid) (files new) = kept (StandsBesideRun (run_of folder i flush) (list_at lists i) (files mid)) mid new own (beside_start (run_of folder i flush) (list_at lists i) (files mid)) in
+    let mine : HasItems (list_at lists i) → (files new (run_of folder i flush)).now ≡ Some (pairs_text (list_at lists i)) = subst (λ (n : ℕ). HasItems (list_at lists i) → (files new (run_of folder n flush)).now ≡ Some (pairs_text (list_at lists i))) at_part (subst (λ (ps : List Pair). HasItems ps → (files new (run_of folder part flush)).now ≡ Some (pairs_text ps)) is_pairs written) in
+    record {
+      done = λ n before some. ⊎_elim (λ (earlier : n < i). ap (λ (h : Held). h.now) (stands (run_of folder n flush) (λ _. children_apart folder (run_name n flush) (run_name i flush) (run_of folder n flush) (run_names_differ n i flush (omega arith) (omega arith) (λ same. omega (arith, same))) (under-refl (run_of folder n flush)))) ∙ below.done n earlier some) (λ (last : i ≤ n). let same : n ≡ i = omega arith in subst (λ (m : ℕ). HasItems (list_at lists m) → (files new (run_of folder m flush)).now ≡ Some (pairs_text (list_at lists m))) (sym same) mine some) (cases_lt n i);
+      others = λ n from some. let place = has_place lists n some in still_vacant folder flush i n (list_at lists i) (files mid) (files new) (omega arith) (omega arith) (λ same. omega (arith, same)) stands (below.others n (omega arith) some);
+    }
+
+pub written_none : (folder : Names) (flush : ℕ) (lists : List (List Pair)) (state : State) → AreListsVacant folder flush lists state → WrittenBelow folder flush lists 0 state
+written_none folder flush lists state vacant =
+    record { done = λ part below some. absurd (omega arith); others = λ part from some. vacant part some }
+
+pub written_all : (folder : Names) (flush : ℕ) (lists : List (List Pair)) (count : ℕ) (state : State) → length lists ≤ count → WrittenBelow folder flush lists count state → HasLists folder flush lists state
+written_all folder flush lists count state all below part some =
+    let place = has_place lists part some in below.done part (omega arith) some

@@ -1,0 +1,13 @@
+//! Pairs of a key and a value on their way from map outputs to reducers: sorted runs of them, over any directory.
+#![tactic(auto)]
+
+mod chunk;
+mod fault;
+mod names;
+mod spill;
+#[cfg(test)]
+mod tests;
+mod writing;
+
+pub use fault::SpillFault;
+pub use spill::Spill;

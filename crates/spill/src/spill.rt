@@ -1,0 +1,182 @@
+ghost use Rattle.std.specs.Prelude.{◌≡◌, ℕ, ◌+◌, ◌<◌, ◌≤◌, ◌↔◌, ◌++◌, [], length, map, All, IfOk, OnOk, OnErr, IsOk, IsTrue, replicate};
+ghost use Rattle.dir_disk.specs.Causes.{HasCause};
+ghost use Rattle.dir_disk.specs.Moments.{Both, Through, files};
+ghost use Rattle.pairs.specs.Pairs.{IsPlain, pairs_in};
+ghost use Rattle.spill.specs.Runs.{new_runs, StandsBesideRuns, HasRuns};
+ghost use Rattle.spill.specs.Chunks.{sorted_parts_of, StandsBesideLists, HasLists, AreListsFree, AreListsVacant, AreNoted};
+ghost use Rattle.spill.specs.Spills.{empty_spill, with_pair, bytes_held, pairs_at, runs_at, next_run, AreFree, AreVacant, number_after};
+
+use crate::chunk::sorted_parts;
+use crate::fault::SpillFault;
+use crate::writing::{note_runs, write_runs};
+use dir_disk::Dir;
+use peg_base::Path;
+use peg_text::{NoMemory, write_pair};
+use std::alloc::Global;
+use std::marker::Model;
+
+/// Pairs of a key and a value on their way to sorted runs. They are held up to a limit of bytes, in the order in which
+/// they were pushed, and a flush writes them as files, one for each part that has some.
+#[derive(Drop)]
+pub struct Spill {
+    limit: u64,
+    reducers: u32,
+    folder: Path,
+    /// The pairs held, each as a line.
+    text: Vec<u8>,
+    /// How many they are.
+    count: usize,
+    flushes: u64,
+    /// The paths of the runs, by parts.
+    runs: Vec<Vec<Path>>,
+}
+
+impl Model for Spill {
+    ghost use Rattle.std.specs.Prelude.{map, length};
+    ghost use Rattle.pairs.specs.Pairs.{pairs_in};
+    ghost use Rattle.spill.specs.Spills.{Held, IsWell};
+
+    ghost Value = { Held };
+
+    ghost view = { λ s. record { limit = s.limit; reducers = s.reducers; folder = s.folder; pairs = pairs_in s.text.items; flushes = s.flushes; runs = map (λ paths. paths.items) s.runs.items } };
+
+    ghost invariant = { λ s. IsWell s.text.items s.count s.reducers (length s.runs.items) s.folder };
+}
+
+impl Spill {
+    /// A spill that holds no pair, for as many parts as there are reducers, with its runs in the folder. It is full at
+    /// `limit` bytes of keys and values.
+    pub fn new(alloc: Global, limit: u64, reducers: u32, folder: &Path) -> Result<Spill, NoMemory>
+        requires some { 1 ≤ reducers }
+        requires few { reducers ≤ 100000 }
+        requires short { length folder.now < 8 }
+        ensures { IfOk result (λ spill. spill ≡ empty_spill limit reducers folder.now) }
+    {
+        let runs = empty_runs(alloc, reducers)?;
+        Ok(Spill {
+            limit,
+            reducers,
+            folder: folder.copy(alloc)?,
+            text: Vec::new(alloc),
+            count: 0,
+            flushes: 0,
+            runs,
+        })
+    }
+
+    /// Adds a pair. Without memory the pairs held are as before.
+    pub fn push(&mut self, alloc: Global, key: &[u8], value: &[u8]) -> Result<(), NoMemory>
+        requires { IsPlain (key.now, value.now) }
+        ensures pushed { OnOk result (self.new ≡ with_pair (key.now, value.now) self.old) }
+        ensures no_memory { OnErr result (self.new ≡ self.old) }
+    {
+        write_pair(alloc, &mut self.text, key, value)?;
+        self.count += 1;
+        Ok(())
+    }
+
+    /// Whether the bytes of the keys and values held reach the limit.
+    pub fn full(&self) -> bool
+        ensures { IsTrue result ↔ (self.now.limit ≤ bytes_held self.now) }
+    {
+        (self.text.len() - 2 * self.count) as u64 >= self.limit
+    }
+
+    /// Writes the pairs held as runs, one for each part that has some, and holds none then. Without pairs it makes no
+    /// call of the directory, and isn't numbered. After a refusal the spill may only be dropped; the runs of this flush
+    /// may have anything.
+    pub fn flush<D: Dir>(&mut self, alloc: Global, dir: &mut D) -> Result<(), SpillFault>
+        requires lent { AreFree (D.lent dir.old) self.old }
+        requires vacant { D.tells → AreVacant (files (D.told dir.old)) self.old }
+        ensures steps { let entry = files (D.told dir.old) in D.tells
+            → Through (Both (StandsBesideRuns self.old.folder self.old.flushes self.old.reducers self.old.pairs entry)) (D.told dir.old) (D.told dir.new) }
+        ensures written { D.tells
+            → OnOk result (HasRuns self.old.folder self.old.flushes self.old.reducers self.old.pairs (files (D.told dir.new))) }
+        ensures held { OnOk result (self.new.pairs ≡ []) }
+        ensures numbered { OnOk result (self.new.flushes ≡ number_after self.old.pairs self.old.flushes) }
+        ensures runs { OnOk result ((part : ℕ) → part < self.old.reducers
+            → runs_at self.new part ≡ runs_at self.old part ++ new_runs (next_run self.old part) (pairs_at self.old part)) }
+        ensures limit { self.new.limit ≡ self.old.limit }
+        ensures reducers { self.new.reducers ≡ self.old.reducers }
+        ensures folder { self.new.folder ≡ self.old.folder }
+        ensures nothing { self.old.pairs ≡ []
+            → IsOk result × (self.new ≡ self.old) × (D.told dir.new ≡ D.told dir.old) }
+        ensures plain { All IsPlain self.old.pairs }
+        ensures lent { D.lent dir.new ≡ D.lent dir.old }
+        ensures beside { D.beside dir.new ≡ D.beside dir.old }
+        ensures cause { HasCause SpillFault.Disk (D.faults dir.old) (D.faults dir.new) result }
+    {
+        if self.count == 0 {
+            return Ok(());
+        }
+        let Some(next) = self.flushes.checked_add(1) else {
+            return Err(SpillFault::NoMemory);
+        };
+        write_chunk(
+            alloc,
+            dir,
+            &self.folder,
+            self.flushes,
+            &self.text,
+            self.reducers,
+            &mut self.runs,
+        )?;
+        self.text.clear();
+        self.count = 0;
+        self.flushes = next;
+        Ok(())
+    }
+
+    /// The paths of a part's runs, in the order of their flushes.
+    pub fn runs(&self, part: u32) -> &[Path]
+        requires { part < self.now.reducers }
+        ensures { result.now ≡ runs_at self.now part }
+    {
+        &self.runs[part as usize]
+    }
+}
+
+/// No paths for each part.
+fn empty_runs(alloc: Global, reducers: u32) -> Result<Vec<Vec<Path>>, NoMemory>
+    ensures { IfOk result (λ runs. map (λ paths. paths.items) runs.items ≡ replicate reducers []) }
+{
+    let mut runs = Vec::new(alloc);
+    for _part in 0..reducers {
+        runs.push(Vec::new(alloc))?;
+    }
+    Ok(runs)
+}
+
+/// Writes the runs of a chunk, and adds their paths to those of their parts.
+fn write_chunk<D: Dir>(
+    alloc: Global,
+    dir: &mut D,
+    folder: &Path,
+    flush: u64,
+    text: &[u8],
+    reducers: u32,
+    runs: &mut Vec<Vec<Path>>,
+) -> Result<(), SpillFault>
+    requires some { 1 ≤ reducers }
+    requires few { reducers ≤ 100000 }
+    requires short { length folder.now < 8 }
+    requires runs { length runs.old.items ≡ reducers }
+    requires lent { AreListsFree folder.now flush (sorted_parts_of reducers (pairs_in text.now)) (D.lent dir.old) }
+    requires vacant { D.tells
+        → AreListsVacant folder.now flush (sorted_parts_of reducers (pairs_in text.now)) (files (D.told dir.old)) }
+    ensures steps { let lists = sorted_parts_of reducers (pairs_in text.now) in D.tells
+        → Through (Both (StandsBesideLists folder.now flush lists (files (D.told dir.old)))) (D.told dir.old) (D.told dir.new) }
+    ensures written { D.tells
+        → OnOk result (HasLists folder.now flush (sorted_parts_of reducers (pairs_in text.now)) (files (D.told dir.new))) }
+    ensures len { length runs.new.items ≡ length runs.old.items }
+    ensures noted { OnOk result
+        (AreNoted folder.now flush (sorted_parts_of reducers (pairs_in text.now)) (map (λ paths. paths.items) runs.old.items) (map (λ paths. paths.items) runs.new.items)) }
+    ensures lent { D.lent dir.new ≡ D.lent dir.old }
+    ensures beside { D.beside dir.new ≡ D.beside dir.old }
+    ensures cause { HasCause SpillFault.Disk (D.faults dir.old) (D.faults dir.new) result }
+{
+    let parts = sorted_parts(alloc, text, reducers)?;
+    write_runs(alloc, dir, folder, flush, &parts)?;
+    note_runs(alloc, folder, flush, &parts, runs)?;
+    Ok(())
+}
