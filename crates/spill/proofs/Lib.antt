@@ -1,4 +1,5 @@
 pub mod ChunkLemmas
+pub mod LawLemmas
 pub mod RunNames
 pub mod SpillLemmas
 pub mod WritingLemmas

@@ -1,4 +1,5 @@
 pub mod Chunks
 pub mod Faults
+pub mod Laws
 pub mod Runs
 pub mod Spills

@@ -3,6 +3,7 @@
 
 mod chunk;
 mod fault;
+pub mod laws;
 mod names;
 mod spill;
 #[cfg(test)]

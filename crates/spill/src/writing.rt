@@ -143,10 +143,9 @@ fn note_run(
     ensures { OnOk result
         (paths.new.items ≡ paths.old.items ++ new_runs (run_of folder.now part flush) (texts pairs.now)) }
 {
-    if pairs.is_empty() {
-        return Ok(());
+    if !pairs.is_empty() {
+        paths.push(run_path(alloc, folder, part, flush)?)?;
     }
-    paths.push(run_path(alloc, folder, part, flush)?)?;
     Ok(())
 }
 
@@ -155,18 +154,18 @@ pub(crate) fn note_runs(
     alloc: Global,
     folder: &Path,
     flush: u64,
-    parts: &[Slices<'_>],
+    lists: &[Slices<'_>],
     runs: &mut Vec<Vec<Path>>,
 ) -> Result<(), NoMemory>
     requires short { length folder.now < 8 }
-    requires few { length parts.now ≤ 100000 }
-    requires same { length parts.now ≡ length runs.old.items }
+    requires few { length lists.now ≤ 100000 }
+    requires same { length lists.now ≡ length runs.old.items }
     ensures len { length runs.new.items ≡ length runs.old.items }
     ensures noted { OnOk result
-        (AreNoted folder.now flush (map (λ pairs. texts pairs.items) parts.now) (map (λ paths. paths.items) runs.old.items) (map (λ paths. paths.items) runs.new.items)) }
+        (AreNoted folder.now flush (map (λ pairs. texts pairs.items) lists.now) (map (λ paths. paths.items) runs.old.items) (map (λ paths. paths.items) runs.new.items)) }
 {
     let mut part = 0;
-    for pairs in parts {
+    for pairs in lists {
         note_run(alloc, folder, part, flush, pairs, &mut runs[part as usize])?;
         part += 1;
     }

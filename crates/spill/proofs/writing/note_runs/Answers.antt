@@ -19,7 +19,7 @@ pub loop-pairs-preserved : goal.loop-pairs-preserved
 loop-pairs-preserved c =
     let folder = c.args.folder.now in
     let flush = c.args.flush in
-    let lists : List (List Pair) = map pairs_of c.args.parts.now in
+    let lists : List (List Pair) = map pairs_of c.args.lists.now in
     let i = c.loop-pairs.pairs-index in
     let items = c.loop-pairs.runs.items in
     let before : List (List Names) = map names_of c.args.runs.now.items in
@@ -30,7 +30,7 @@ loop-pairs-preserved c =
     let long : length after ≡ length items = length-map items names_of in
     let there : i < length after = omega arith in
     let paths : names_of c.index_mut.result.now ≡ get_or after i [] = ap names_of c.index_mut.ensures.value ∙ ap (λ (n : ℕ). names_of (get_or items n c.index_mut.result.now)) at_part ∙ sym (get_or-map names_of items i c.index_mut.result.now [] inside) in
-    let pairs : texts c.deref.result.now ≡ list_at lists i = ap texts c.deref.ensures.value ∙ ap pairs_of c.pairs-item.is ∙ sym (get_or-map pairs_of c.args.parts.now i c.pairs-item.result [] c.loop-pairs-test.true) in
+    let pairs : texts c.deref.result.now ≡ list_at lists i = ap texts c.deref.ensures.value ∙ ap pairs_of c.pairs-item.is ∙ sym (get_or-map pairs_of c.args.lists.now i c.pairs-item.result [] c.loop-pairs-test.true) in
     let noted : names_of more ≡ names_of c.index_mut.result.now ++ new_runs (run_of folder i flush) (list_at lists i) = c.in_ok-note_run.ensures ∙ ap (λ (n : ℕ). names_of c.index_mut.result.now ++ new_runs (run_of folder n flush) (texts c.deref.result.now)) at_part ∙ ap (λ (ps : List Pair). names_of c.index_mut.result.now ++ new_runs (run_of folder i flush) ps) pairs in
     record {
       part = ap (λ (n : ℕ). n + 1) at_part;
@@ -40,8 +40,8 @@ loop-pairs-preserved c =
 
 pub returns : goal.returns
 returns c =
-    let lists : List (List Pair) = map pairs_of c.args.parts.now in
-    let long : length lists ≡ length c.args.parts.now = length-map c.args.parts.now pairs_of in
+    let lists : List (List Pair) = map pairs_of c.args.lists.now in
+    let long : length lists ≡ length c.args.lists.now = length-map c.args.lists.now pairs_of in
     record {
       len = c.loop-pairs.invariant.len;
       noted = noted_all c.args.folder.now c.args.flush lists c.loop-pairs.pairs-index (map names_of c.args.runs.now.items) (map names_of c.loop-pairs.runs.items) (omega (arith, long, c.loop-pairs-test.false)) c.loop-pairs.invariant.noted;

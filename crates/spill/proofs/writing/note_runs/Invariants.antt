@@ -7,5 +7,5 @@ abbrev pub invariant-loop-pairs : goal.invariant-loop-pairs
 invariant-loop-pairs l = record {
   part : l.part ≡ l.pairs-index;
   len : length l.runs.items ≡ length l.fn.runs.items;
-  noted : NotedBelow l.folder l.flush (map (λ pairs. texts pairs.items) l.parts) l.pairs-index (map (λ paths. paths.items) l.fn.runs.items) (map (λ paths. paths.items) l.runs.items);
+  noted : NotedBelow l.folder l.flush (map (λ pairs. texts pairs.items) l.lists) l.pairs-index (map (λ paths. paths.items) l.fn.runs.items) (map (λ paths. paths.items) l.runs.items);
 }
