@@ -1,10 +1,11 @@
--- What is lent where something else is free.
-use Rattle.std.proofs.Common.{◌≡◌, ⊎_elim, true, false, List, sym, ◌∙◌}
+-- What is lent where something else is free, and to how many children.
+use Rattle.std.proofs.Common.{◌≡◌, ⊎_elim, true, false, List, [], ◌∷◌, ◌++◌, sym, refl, ap, ◌∙◌}
 use Rattle.std.proofs.lemmas.Bool.{false≢true, cases_Bool}
 use Rattle.std.proofs.lemmas.List.Elements.{All-weaker}
 use Rattle.peg_base.specs.Names.{Names, under, same_path}
 use Rattle.peg_base.proofs.Under.{under-same, under-trans}
 use Rattle.dir_disk.specs.Lent.{Loan, IsNoOutput, IsFree}
+use Rattle.dir_disk.specs.Children.{Child, loan_of, loans_of}
 
 -- a path under a free one is free
 pub free_below : (lent : List Loan) (top path : Names) → under top path ≡ true → IsFree lent top → IsFree lent path
@@ -23,3 +24,8 @@ no_output lent path free =
     other : (q : Names) → under path q ≡ false → same_path path q ≡ false
     other q apart =
         ⊎_elim (λ same. absurd (false≢true (sym apart ∙ under-same path q same))) (λ differs. differs) (cases_Bool (same_path path q))
+
+-- a child that is started last has its loan last
+pub loans_end : (children : List Child) (child : Child) → loans_of (children ++ child ∷ []) ≡ loans_of children ++ loan_of child ∷ []
+loans_end [] child = refl
+loans_end (first ∷ others) child = ap (λ loans. loan_of first ∷ loans) (loans_end others child)

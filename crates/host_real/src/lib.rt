@@ -1,6 +1,7 @@
 //! The real machine: its words, files and standard streams, as the traits of the outside. It tells no content.
 #![tactic(auto)]
 
+mod children;
 mod file_source;
 mod reads;
 mod site;

@@ -1,35 +1,40 @@
-ghost use Rattle.std.specs.Prelude.{◌≡◌, ◌≤◌, ◌^◌, ℕ, [], None, Err, Ok, IfOk, IfSome, MatchResult, length};
+ghost use Rattle.std.specs.Prelude.{◌≡◌, ◌≤◌, ◌^◌, ℕ, [], None, Err, Ok, IfOk, IfSome, MatchResult, length, refl};
+ghost use Rattle.std.proofs.Common.{ap};
 ghost use Rattle.dir_disk.specs.Causes.{HasCause};
 ghost use Rattle.dir_disk.specs.State.{no_files};
+ghost use Rattle.dir_disk.specs.Children.{Seen, loans_of};
 
+use crate::children::{Children, command_of};
 use crate::reads::read_some;
 use crate::std_streams::say_on;
 use crate::tree::{clear_folder, is_absent, is_folder, parent_of, remove_any, sync, sync_tree};
-use dir_disk::{Console, Dir, DirFault, SayFault};
-use peg_base::Path;
+use dir_disk::{Console, Dir, DirFault, Ended, SayFault, Site, StartFault};
+use peg_base::{Attempt, Path, Words};
 use peg_text::NoMemory;
 use std::alloc::{AllocGlobal, Global};
 use std::fs::{OpenFile, OpenOptions};
 use std::io::{ErrorKind, Print, Read, Seek, SeekFrom, Write};
+use std::process::Processes;
 use std::rt::Files;
 use std::{fs, io};
 
 /// The most bytes of a file: 2^50.
 const LONGEST: u64 = 1 << 50;
 
-/// A work folder of the machine with standard output beside it. It tells no content.
+/// A work folder of the machine with standard output beside it, at which children are started. It tells no content.
 ///
 /// Folders are made where a file is written, and may be left without files; a folder without files counts as not there.
 #[derive(Drop)]
-pub struct HostSite<'r, R> {
+pub struct HostSite<'r, R: Processes> {
     rt: &'r R,
     work: String,
     child: String,
+    children: Children<R>,
     faults: u64,
     say_faults: u64,
 }
 
-impl<'r, R: Files + Print + AllocGlobal + Clone + Drop> HostSite<'r, R> {
+impl<'r, R: Files + Print + Processes + AllocGlobal + Clone + Drop> HostSite<'r, R> {
     /// A site over the folder of this path, which need not be there yet, with the program that is to stand for `pegchild`.
     pub fn new(
         rt: &'r R,
@@ -39,11 +44,13 @@ impl<'r, R: Files + Print + AllocGlobal + Clone + Drop> HostSite<'r, R> {
     ) -> Result<HostSite<'r, R>, NoMemory>
         ensures faults { IfOk result (λ site. ⟦<HostSite<'r, R> as Dir>⟧.faults site ≡ 0) }
         ensures say_faults { IfOk result (λ site. ⟦<HostSite<'r, R> as Console>⟧.say_faults site ≡ 0) }
+        ensures seen { IfOk result (λ site. ⟦<HostSite<'r, R> as Site>⟧.seen site ≡ record { running = []; log = []; start_faults = 0 }) }
     {
         Ok(HostSite {
             rt,
             work: String::from_str(alloc, work)?,
             child: String::from_str(alloc, child)?,
+            children: Children::new(alloc),
             faults: 0,
             say_faults: 0,
         })
@@ -64,6 +71,7 @@ impl<'r, R: Files + Print + AllocGlobal + Clone + Drop> HostSite<'r, R> {
         ensures answer { MatchResult answer (λ value. result ≡ Ok value) (λ _. result ≡ Err DirFault.Failed) }
         ensures cause { HasCause DirFault.Failed self.old.faults self.new.faults result }
         ensures say_faults { self.new.say_faults ≡ self.old.say_faults }
+        ensures children { self.new.children ≡ self.old.children }
     {
         match answer {
             Ok(value) => Ok(value),
@@ -159,18 +167,18 @@ fn fill(reader: &mut impl Read, buffer: &mut [u8]) -> io::Result<usize>
     Ok(len)
 }
 
-impl<'r, R: Files + Print + AllocGlobal + Clone + Drop> Dir for HostSite<'r, R> {
+impl<'r, R: Files + Print + Processes + AllocGlobal + Clone + Drop> Dir for HostSite<'r, R> {
     ghost tells = { ⊥ };
 
     ghost told = { λ _. record { count = 0; at = λ _. record { calls = 0; state = no_files } } };
 
-    ghost lent = { λ _. [] };
+    ghost lent = { λ site. loans_of site.children.running };
 
     ghost faults = { λ site. site.faults };
 
-    ghost Beside = { ℕ };
+    ghost Beside = { Seen × ℕ };
 
-    ghost beside = { λ site. site.say_faults };
+    ghost beside = { λ site. (site.children, site.say_faults) };
 
     fn size(&mut self, alloc: Global, path: &Path) -> Result<Option<u64>, DirFault> {
         let Ok(place) = self.place_of(alloc, path) else {
@@ -240,16 +248,71 @@ impl<'r, R: Files + Print + AllocGlobal + Clone + Drop> Dir for HostSite<'r, R> 
     ghost top_is_no_file = { λ site content tells. absurd tells };
 }
 
-impl<'r, R: Files + Print + AllocGlobal + Clone + Drop> Console for HostSite<'r, R> {
+impl<'r, R: Files + Print + Processes + AllocGlobal + Clone + Drop> Console for HostSite<'r, R> {
     ghost said = { λ _. None };
+
+    ghost says = { λ _. None };
+
+    ghost moment = { λ _. 0 };
 
     ghost say_faults = { λ site. site.say_faults };
 
-    ghost Beside = { ℕ };
+    ghost Beside = { Seen × ℕ };
 
-    ghost beside = { λ site. site.faults };
+    ghost beside = { λ site. (site.children, site.faults) };
 
     fn say(&mut self, _alloc: Global, bytes: &[u8]) -> Result<(), SayFault> {
         say_on(self.rt, &mut self.say_faults, bytes)
     }
+}
+
+impl<'r, R: Files + Print + Processes + AllocGlobal + Clone + Drop> Site for HostSite<'r, R> {
+    ghost seen = { λ site. site.children };
+
+    ghost given = { λ _. [] };
+
+    ghost gives = { λ _ _. [] };
+
+    fn start(
+        &mut self,
+        alloc: Global,
+        attempt: &Attempt,
+        words: &Words,
+        input: &Path,
+        output: &Path,
+    ) -> Result<(), StartFault> {
+        let (Ok(from), Ok(place)) = (self.place_of(alloc, input), self.place_of(alloc, output))
+        else {
+            return Err(StartFault::NoMemory);
+        };
+        let child = self.child.as_str();
+        let Ok(mut command) = command_of(alloc, child, words, from.as_str(), place.as_str()) else {
+            return Err(StartFault::NoMemory);
+        };
+        let place = place.as_str();
+        self.children.start(
+            self.rt,
+            alloc,
+            &mut command,
+            place,
+            attempt,
+            words,
+            input,
+            output,
+        )
+    }
+
+    fn reap(&mut self) -> Ended {
+        self.children.reap()
+    }
+
+    ghost beside_dir = { λ s t same. (ap (λ b. b.0) same, (λ tells. absurd tells), refl, refl, ap (λ b. b.1) same) };
+
+    ghost beside_console = { λ s t same. (ap (λ b. b.0) same, (λ tells. absurd tells), ap (λ b. loans_of b.0.running) same, ap (λ b. b.1) same) };
+
+    ghost lent_to_children = { λ s. refl };
+
+    ghost tells_says = { λ s tells. absurd tells };
+
+    ghost say_moment = { λ s tells. absurd tells };
 }

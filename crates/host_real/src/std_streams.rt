@@ -120,6 +120,10 @@ impl<'r, R: Print> StdConsole<'r, R> {
 impl<'r, R: Print> Console for StdConsole<'r, R> {
     ghost said = { λ _. None };
 
+    ghost says = { λ _. None };
+
+    ghost moment = { λ _. 0 };
+
     ghost say_faults = { λ console. console.say_faults };
 
     ghost Beside = { Unit {0} };
