@@ -1,5 +1,5 @@
 -- The lines of a split, by where lines begin.
-use Rattle.std.proofs.Common.{◌≡◌, ℕ, ◌+◌, ◌-◌, ◌<◌, ◌≤◌, Bool, true, false, ◌&&◌, ◌||◌, ◌⊎◌, List, [], ◌∷◌, ◌++◌, length, map, refl, sym, ap, ◌∙◌, arith, inl, inr, eqb, ltb, leb}
+use Rattle.std.proofs.Common.{◌≡◌, ℕ, suc, ◌+◌, ◌-◌, ◌<◌, ◌≤◌, Bool, true, false, ◌&&◌, ◌||◌, ◌⊎◌, List, [], ◌∷◌, ◌++◌, length, map, refl, sym, ap, ◌∙◌, arith, inl, inr, eqb, ltb, leb}
 use Rattle.std.specs.Prelude.{filter}
 use Rattle.std.specs.List.{flat_map}
 use Rattle.std.proofs.lemmas.Bool.{cases_Bool, cases_lt, cases_eq, cond-true, cond-false, ne_eqb, eq-eqb, lt-ltb, le-ltb, le-leb, lt-leb, and_from, and_left, and_right, or_left, or_right, or_from}
@@ -9,7 +9,7 @@ use Rattle.peg_text.proofs.RecordLemmas.{lf_parts}
 use Rattle.splits.specs.declared.table.Split.{Split}
 use Rattle.splits.specs.Table.{splits_of, FollowEachOther}
 use Rattle.splits.specs.Lines.{Line, lines_from, belongs, split_lines}
-use Rattle.splits.specs.Laws.{SplitsCoverEachLineOnce}
+use Rattle.splits.specs.Laws.{EachLineIsInOneSplit, SplitsCoverEachLineOnce}
 use Rattle.splits.specs.Copying.{HasNoLfBetween, lines_up_to}
 use Rattle.splits.proofs.CutLemmas.{span, length-joined, whole_low}
 use Rattle.splits.proofs.TableLemmas.{splits_follow}
@@ -250,3 +250,38 @@ splits_cover_each_line_once bytes split some =
 pub split_lines-first : (split : Split) (bytes : List ℕ) → split.start ≡ 0 → split_lines split bytes ≡ lines_up_to split.end bytes
 split_lines-first split bytes first =
     ap (λ s. split_lines (record { start = s; end = split.end }) bytes) first
+
+-- ---- one line among splits that follow each other
+
+-- how many of the splits have the line
+abbrev splits_with : Line → List Split → ℕ
+splits_with line splits = length (filter (λ s. belongs s line) splits)
+
+in_no_later : (line : Line) (start : ℕ) (splits : List Split) (end : ℕ) → 0 < start → line.begin ≤ start → FollowEachOther start splits end → splits_with line splits ≡ 0
+in_no_later line start [] end some low follow = refl
+in_no_later line start (split ∷ splits) end some low follow =
+    ap length (cond-false (begins_in split line.begin) _ _ (begins_low split line.begin (omega (arith, follow.0)) (omega (arith, follow.0)))) ∙ in_no_later line split.end splits end (omega (arith, follow.1)) (omega (arith, follow.1)) follow.2
+
+in_one : (line : Line) (start : ℕ) (splits : List Split) (end : ℕ) → 0 < start → start < line.begin → line.begin ≤ end → FollowEachOther start splits end → splits_with line splits ≡ 1
+in_one line start [] end some behind inside follow = absurd (omega (arith, follow))
+in_one line start (split ∷ splits) end some behind inside follow =
+    elim (cases_lt split.end line.begin) [
+      | inl above ↦
+          ap length (cond-false (begins_in split line.begin) _ _ (begins_above split line.begin above)) ∙ in_one line split.end splits end (omega (arith, follow.1)) above inside follow.2
+      | inr low ↦
+          ap length (cond-true (begins_in split line.begin) _ _ (begins_inside split line.begin (omega (arith, follow.0)) low)) ∙ ap suc (in_no_later line split.end splits end (omega (arith, follow.1)) low follow.2)
+    ]
+
+in_one_of_all : (line : Line) (splits : List Split) (len : ℕ) → line.begin < len → FollowEachOther 0 splits len → splits_with line splits ≡ 1
+in_one_of_all line [] len inside follow = absurd (omega (arith, follow))
+in_one_of_all line (split ∷ splits) len inside follow =
+    elim (cases_lt split.end line.begin) [
+      | inl above ↦
+          ap length (cond-false (begins_in split line.begin) _ _ (begins_above split line.begin above)) ∙ in_one line split.end splits len (omega (arith, follow.1)) above (omega arith) follow.2
+      | inr low ↦
+          ap length (cond-true (begins_in split line.begin) _ _ (begins_first split line.begin follow.0 low)) ∙ ap suc (in_no_later line split.end splits len (omega (arith, follow.1)) low follow.2)
+    ]
+
+pub each_line_is_in_one_split : EachLineIsInOneSplit
+each_line_is_in_one_split len split line some inside =
+    in_one_of_all line (splits_of len split) len inside (splits_follow len split some)

@@ -1,4 +1,6 @@
 use super::*;
+use dir_disk::SilentDir;
+use peg_base::{Name, Path};
 use std::test::Fail;
 
 #[test]
@@ -21,5 +23,20 @@ fn splits_are_as_long_as_asked_for_but_never_too_many(rt: HostRuntime) -> Result
             end: 8192
         }
     );
+    Ok(())
+}
+
+#[test]
+fn a_file_that_gives_nothing_has_no_line(rt: HostRuntime) -> Result<(), Fail> {
+    let alloc = rt.alloc();
+    let name = Name::new(alloc, b"in")?.expect(&rt, "a name");
+    let path = Path::root(alloc).child(alloc, &name)?;
+    let name = Name::new(alloc, b"out")?.expect(&rt, "a name");
+    let out = Path::root(alloc).child(alloc, &name)?;
+    let mut dir = SilentDir;
+    for (start, end) in [(0, 4), (4, 8)] {
+        let split = Split { start, end };
+        assert_eq!(rt; lines_of_split(alloc, &mut dir, &path, &split, &out), Ok(0));
+    }
     Ok(())
 }
