@@ -13,9 +13,12 @@ number_text i number = pair_text (decimal i) (decimal number)
 abbrev pub number_line : ℕ → ℕ → List ℕ
 number_line i number = with_lf (number_text i number)
 
--- `column TAB W SP row SP weight`
+-- `column TAB W SP row SP weight`, from its three texts
+abbrev pub entry_text_of : List ℕ → List ℕ → List ℕ → List ℕ
+entry_text_of column row weight = pair_text column (87 ∷ 32 ∷ (row ++ (32 ∷ weight)))
+
 abbrev pub entry_text : ℕ → ℕ → ℕ → List ℕ
-entry_text column row weight = pair_text (decimal column) (87 ∷ 32 ∷ (decimal row ++ (32 ∷ decimal weight)))
+entry_text column row weight = entry_text_of (decimal column) (decimal row) (decimal weight)
 
 abbrev pub entry_line : ℕ → ℕ → ℕ → List ℕ
 entry_line column row weight = with_lf (entry_text column row weight)
