@@ -1,5 +1,5 @@
 -- A child, bytes by bytes: what is known of it goes on.
-use Rattle.std.proofs.Common.{◌≡◌, ℕ, ◌+◌, ◌-◌, ◌≤◌, ◌<◌, List, [], ◌∷◌, ◌++◌, Option, Some, None, Result, Ok, Err, OnOk, IfErr, length, take, drop, refl, sym, ap, ◌∙◌, subst, inl, inr, arith, append_assoc, length-append}
+use Rattle.std.proofs.Common.{◌≡◌, ℕ, ◌+◌, ◌-◌, ◌≤◌, ◌<◌, List, [], ◌∷◌, ◌++◌, Some, None, Result, Ok, Err, OnOk, IfErr, length, take, drop, refl, sym, ap, ◌∙◌, subst, inl, inr, arith, append_assoc, length-append}
 use Rattle.std.proofs.lemmas.Bool.{cases_lt, eq-eqb}
 use Rattle.std.proofs.lemmas.List.{append-nil, take-append-le, take_all, take_at, take_rest, take-append-drop, length-drop, length-take-le}
 use Rattle.std.proofs.lemmas.List.Elements.{All-append, All-from_get_or}
@@ -8,14 +8,14 @@ use Rattle.std.proofs.Math.Seq.{take-append-add}
 use Rattle.peg_text.specs.Records.{Cut, cut_of, unended, records_of, HasNoLf}
 use Rattle.peg_text.proofs.RecordLemmas.{cut_of-append, cut_of-line, cut_of-unbroken, cut_of-rest}
 use Rattle.peg_text.proofs.CursorLemmas.{unended-some, record_found, IsSearched-none}
-use Rattle.gimv_base.specs.Parts.{Part, written}
+use Rattle.gimv_base.specs.Parts.{written}
 use Rattle.gimv_base.specs.Rules.{Rule, role_out}
 use Rattle.gimv_base.specs.Standings.{Standing, fresh}
 use Rattle.child.specs.declared.status.ChildStatus.{ChildStatus}
 use Rattle.child.specs.declared.status.ChildStatus.TheVariants as Status
-use Rattle.child.specs.Judging.{most_bytes, judged_records, IsBadAmong, AreGood, AreTooMany}
+use Rattle.child.specs.Judging.{most_bytes, judged_records, IsBadAmong, AreGood}
 use Rattle.child.specs.Handing.{HasHanded, Hands, HandsNoMore, IsRefused, IsRefusedLast}
-use Rattle.child.specs.Feeding.{Fed, HasFed, Feeds, IsRefusal, RefusesBytes, Finishes, IsLastRefusal, RefusesToFinish}
+use Rattle.child.specs.Feeding.{Fed, HasFed, Feeds, IsRefusal, RefusesBytes, Finishes, RefusesToFinish}
 use Rattle.child.proofs.HandingLemmas.{HasHanded-none, IsBadAmong-more}
 
 abbrev Records : Type 0

@@ -1,15 +1,15 @@
 -- A role, record by record: what is known of it goes on.
-use Rattle.std.proofs.Common.{◌≡◌, ◌≢◌, ℕ, ◌+◌, ◌≤◌, ◌<◌, Bool, true, false, List, [], ◌∷◌, ◌++◌, Option, Some, None, option_map, length, take, refl, sym, ap, ◌∙◌, subst, inl, inr, arith, append_assoc, length-append}
+use Rattle.std.proofs.Common.{◌≡◌, ◌≢◌, ℕ, ◌+◌, ◌≤◌, false, List, [], ◌∷◌, ◌++◌, Option, Some, None, option_map, length, refl, sym, ap, ◌∙◌, subst, inl, inr, arith, append_assoc, length-append}
 use Rattle.std.proofs.lemmas.Bool.{cases_Bool, cases_lt}
 use Rattle.std.proofs.lemmas.List.{append-nil, take-append-le, take_all, append_cancel_left}
 use Rattle.peg_text.specs.Lists.{GoesOnFrom}
 use Rattle.peg_text.specs.Pairs.{key_of}
 use Rattle.peg_text.proofs.ListLemmas.{GoesOnFrom-same, GoesOnFrom-by, GoesOnFrom-then}
-use Rattle.gimv_base.specs.Parts.{Part, nothing, after, written}
-use Rattle.gimv_base.specs.Rules.{Rule, ByRecord, ByGroup, has_key, role_out, complete, complete_groups}
+use Rattle.gimv_base.specs.Parts.{Part, nothing, after}
+use Rattle.gimv_base.specs.Rules.{Rule, ByRecord, ByGroup, has_key, role_out, complete}
 use Rattle.gimv_base.specs.Standings.{Begun, Standing, fresh, resumed, yet, open_key, goes_on, key_after}
 use Rattle.gimv_base.specs.Answers.{Takes, IsBadAt, IsNotBad, Ends, GoesOnWith}
-use Rattle.gimv_base.proofs.PartLemmas.{after-after, after_twice}
+use Rattle.gimv_base.proofs.PartLemmas.{after-after}
 use Rattle.child.specs.Judging.{IsBadAmong, AreGood}
 use Rattle.child.specs.Handing.{HasHanded, Hands, HandsNoMore, last_key, key_left, complete_out}
 use Rattle.child.proofs.GroupLemmas.{last_key-more, complete_groups-same, complete_groups-other}

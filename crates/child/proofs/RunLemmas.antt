@@ -1,21 +1,20 @@
 -- What is known of a run while the pieces of a source come to a child.
-use Rattle.std.proofs.Common.{◌≡◌, ◌≢◌, ℕ, ◌+◌, ◌-◌, ◌≤◌, ◌<◌, List, [], ◌∷◌, ◌++◌, Option, Some, None, IfSome, length, take, drop, refl, sym, ap, ◌∙◌, subst, arith, append_assoc, length-append}
+use Rattle.std.proofs.Common.{◌≡◌, ℕ, ◌-◌, ◌≤◌, List, [], ◌++◌, Option, Some, None, IfSome, length, take, drop, refl, sym, ap, ◌∙◌, subst, arith, append_assoc, length-append}
 use Rattle.std.proofs.lemmas.List.{append-nil, take-append-le, take_at, take-append-drop}
 use Rattle.peg_text.specs.Lists.{GoesOnFrom}
 use Rattle.peg_text.specs.Records.{Cut, cut_of, records_of}
 use Rattle.peg_text.proofs.RecordLemmas.{cut_of-append, records_of-append}
 use Rattle.dir_disk.specs.Streams.{AddsPart, AtEnd, added, onto}
 use Rattle.dir_disk.proofs.StreamLemmas.{onto-onto, added-added, onto-nil, added-nil}
-use Rattle.gimv_base.specs.Parts.{Part, written, after}
+use Rattle.gimv_base.specs.Parts.{Part, written}
 use Rattle.gimv_base.specs.Rules.{Rule, role_out, complete}
 use Rattle.gimv_base.specs.Standings.{yet}
 use Rattle.child.specs.declared.status.ChildStatus.{ChildStatus}
 use Rattle.child.specs.declared.status.ChildStatus.TheVariants as Status
-use Rattle.child.specs.Judging.{most_bytes, judged_records, IsBadAmong, AreTooMany}
-use Rattle.child.specs.Handing.{complete_out}
-use Rattle.child.specs.Feeding.{Fed, HasFed, Feeds, IsRefusal, RefusesBytes, Finishes, IsLastRefusal, RefusesToFinish}
+use Rattle.child.specs.Judging.{most_bytes, judged_records, AreTooMany}
+use Rattle.child.specs.Feeding.{Fed, HasFed, Feeds, IsRefusal, Finishes, IsLastRefusal}
 use Rattle.child.specs.Child.{WritesAll, IsDone, IsFirstBad, WritesPart, answer_to, piece_length, IsStreamed}
-use Rattle.child.proofs.FeedingLemmas.{IsRefusal-more, HasFed-none}
+use Rattle.child.proofs.FeedingLemmas.{IsRefusal-more}
 
 abbrev Records : Type 0
 Records = List (List ℕ)

@@ -3,7 +3,7 @@ use Rattle.std.specs.Prelude.{◌≡◌, ℕ, ◌-◌, ◌≤◌, ◌<◌, List,
 use Rattle.peg_text.specs.Records.{cut_of, records_of}
 use Rattle.dir_disk.specs.Streams.{AddsPart, AtEnd, added, onto}
 use Rattle.gimv_base.specs.Rules.{Rule, role_out, complete}
-use Rattle.child.specs.Judging.{most_bytes, judged_records, IsBadAmong, AreTooMany}
+use Rattle.child.specs.Judging.{most_bytes, judged_records, IsBadAmong}
 
 -- no record of the bytes is bad, they are not too many, and all that they give was written
 pub record WritesAll (rule : Rule) (bytes : List ℕ) (before now : Option (List ℕ)) : Type 0 where

@@ -1,5 +1,5 @@
 -- What is known of a child after the bytes that were fed to it.
-use Rattle.std.specs.Prelude.{◌≡◌, ℕ, ◌+◌, ◌≤◌, List, ◌++◌, Some, length}
+use Rattle.std.specs.Prelude.{◌≡◌, ℕ, ◌≤◌, List, ◌++◌, Some, length}
 use Rattle.peg_text.specs.Records.{cut_of, records_of}
 use Rattle.gimv_base.specs.Parts.{written}
 use Rattle.gimv_base.specs.Rules.{Rule, role_out}

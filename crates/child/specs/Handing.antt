@@ -1,5 +1,5 @@
 -- What is known of a role after the records that were handed to it.
-use Rattle.std.specs.Prelude.{◌≡◌, ℕ, ◌+◌, List, [], ◌∷◌, ◌++◌, Option, Some, None, length, take}
+use Rattle.std.specs.Prelude.{◌≡◌, ℕ, List, [], ◌∷◌, ◌++◌, Option, Some, None, length, take}
 use Rattle.peg_text.specs.Lists.{GoesOnFrom}
 use Rattle.peg_text.specs.Pairs.{key_of}
 use Rattle.gimv_base.specs.Parts.{after, written}

@@ -1,11 +1,10 @@
-use Rattle.std.proofs.Common.{◌≡◌, ◌++◌, ◌<◌, ◌∙◌, ℕ, List, Option, [], length, sym, ap, subst, arith}
+use Rattle.std.proofs.Common.{◌≡◌, ◌++◌, ◌∙◌, ℕ, List, [], length, sym, ap, subst, arith}
 use Rattle.std.proofs.lemmas.Grind.{common_steps}
 use Rattle.std.proofs.lemmas.Bool.Decides.{nat_tests}
-use Rattle.gimv_base.specs.Rules.{Rule}
-use Rattle.dir_disk.specs.Streams.{AddsPart, AtEnd, added, onto}
+use Rattle.dir_disk.specs.Streams.{AddsPart, added, onto}
 use Rattle.dir_disk.proofs.StreamLemmas.{onto-nil}
 use Rattle.child.specs.Feeding.{Feeds, Finishes, fed_of}
-use Rattle.child.proofs.RunLemmas.{HasRun, HasRun-same, HasRun-more, part_of, stream_of, stream_in_piece, part_in_write, stream_in_write, part_at_end, stream_at_end, done_at_end, all_given, refused_bad, refused_large, never_ok, never_usage, never_fault, last_bad, last_never_ok, last_never_usage, last_never_fault, last_never_large}
+use Rattle.child.proofs.RunLemmas.{HasRun-same, HasRun-more, part_of, stream_of, stream_in_piece, part_in_write, stream_in_write, part_at_end, stream_at_end, done_at_end, all_given, refused_bad, refused_large, never_ok, never_usage, never_fault, last_bad, last_never_ok, last_never_usage, last_never_fault, last_never_large}
 use Rattle.child.proofs.run.run_role.Goals as goal
 
 pub returns-in-Err-clause-part : goal.returns-in-Err-clause-part

@@ -1,4 +1,4 @@
-use Rattle.std.proofs.Common.{◌≡◌, ◌≤◌, ◌-◌}
+use Rattle.std.proofs.Common.{◌≤◌, ◌-◌}
 use Rattle.child.specs.Judging.{most_bytes}
 use Rattle.child.specs.Feeding.{IsCounted, fed_of}
 use Rattle.child.proofs.RunLemmas.{HasRun}

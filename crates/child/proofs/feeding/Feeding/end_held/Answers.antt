@@ -1,4 +1,4 @@
-use Rattle.std.proofs.Common.{◌≡◌, ◌++◌, ◌∙◌, List, ℕ, subst, arith, refl}
+use Rattle.std.proofs.Common.{◌≡◌, ◌++◌, List, ℕ, subst, arith, refl}
 use Rattle.std.proofs.lemmas.Grind.{common_steps}
 use Rattle.child.specs.Feeding.{fed_of}
 use Rattle.child.specs.Handing.{Hands, IsRefused}

@@ -1,4 +1,4 @@
-use Rattle.std.proofs.Common.{◌≡◌, ◌<◌, ◌++◌, ◌∙◌, List, ℕ, [], length, subst, sym, ap, arith, refl}
+use Rattle.std.proofs.Common.{◌≡◌, ◌<◌, List, ℕ, [], length, subst, arith}
 use Rattle.std.proofs.lemmas.Grind.{common_steps}
 use Rattle.std.proofs.lemmas.Bool.Decides.{nat_tests}
 use Rattle.child.specs.Feeding.{fed_of}
