@@ -51,3 +51,36 @@ fn nodes_take_over_the_least_label(rt: HostRuntime) -> Result<(), NoMemory> {
     assert_eq!(rt; hcc.as_msg(&3), 3);
     Ok(())
 }
+
+/// The next of a series of numbers that look random.
+fn next(number: u64) -> u64 {
+    number
+        .wrapping_mul(6_364_136_223_846_793_005)
+        .wrapping_add(1_442_695_040_888_963_407)
+}
+
+#[test]
+fn random_labels_fall_to_the_least(rt: HostRuntime) -> Result<(), NoMemory> {
+    let alloc = rt.alloc();
+    let hcc = Hcc::new();
+    let mut number = 1;
+    for _ in 0..1000u32 {
+        let old = next(number);
+        let one = next(old) >> 1;
+        let two = next(one) >> 2;
+        number = next(two);
+        let mut all = hcc.unit();
+        hcc.combine(&mut all, &hcc.combine2(&One, &one));
+        hcc.combine(&mut all, &hcc.combine2(&One, &two));
+        let sent = if one < two { one } else { two };
+        let least = if old < sent { old } else { sent };
+        let new = hcc.assign(alloc, &old, &all)?;
+        assert_eq!(rt; new, least);
+        assert_eq!(rt; hcc.same(&old, &new), old <= sent);
+        let mut text = Vec::new(alloc);
+        hcc.write_val(alloc, &mut text, &new)?;
+        assert_eq!(rt; hcc.read_val(alloc, &text)?, Some(new));
+        assert_eq!(rt; text, format!(in alloc; "{least}")?.into_bytes());
+    }
+    Ok(())
+}

@@ -1,3 +1,5 @@
+ghost use Rattle.std.specs.Prelude.{◌≤◌};
+
 use crate::PageRank;
 use gimv_core::Gimv;
 use peg_text::NoMemory;
@@ -60,5 +62,45 @@ fn texts_are_decimals_and_degrees_at_least_one(rt: HostRuntime) -> Result<(), No
     ranks.write_val(alloc, &mut out, &4_294_967_295)?;
     ranks.write_msg(alloc, &mut out, &0)?;
     assert_eq!(rt; out.as_slice(), b"42949672950".as_slice());
+    Ok(())
+}
+
+/// The next of a series of numbers that look random.
+fn next(number: u64) -> u64 {
+    number
+        .wrapping_mul(6_364_136_223_846_793_005)
+        .wrapping_add(1_442_695_040_888_963_407)
+}
+
+/// What a node of this rank passes along each of its edges, by whole numbers of 128 bits.
+fn plain_share(rank: u64, degree: u64) -> u64
+    requires { 1 ≤ degree }
+{
+    u64::try_from(17 * u128::from(rank) / (20 * u128::from(degree))).unwrap_or(u64::MAX)
+}
+
+#[test]
+fn random_ranks_are_shared_and_summed(rt: HostRuntime) -> Result<(), NoMemory> {
+    let alloc = rt.alloc();
+    let mut number = 1;
+    for _ in 0..1000u32 {
+        let nodes = 1 + (number >> 40) as u32;
+        let one = next(number) >> 31;
+        let two = next(one) >> 31;
+        let degree = 1 + (next(two) >> 54);
+        number = next(degree);
+        let ranks = PageRank::new(nodes);
+        let mut all = ranks.unit();
+        ranks.combine(&mut all, &ranks.combine2(&degree, &one));
+        ranks.combine(&mut all, &ranks.combine2(&1, &two));
+        let sum = plain_share(one, degree).saturating_add(plain_share(two, 1));
+        let base = 12_884_901_888 / (20 * u64::from(nodes));
+        let rank = ranks.assign(alloc, &one, &all)?;
+        assert_eq!(rt; rank, base.saturating_add(sum));
+        let mut text = Vec::new(alloc);
+        ranks.write_msg(alloc, &mut text, &rank)?;
+        assert_eq!(rt; ranks.read_msg(&text), Some(rank));
+        assert_eq!(rt; text, format!(in alloc; "{rank}")?.into_bytes());
+    }
     Ok(())
 }
