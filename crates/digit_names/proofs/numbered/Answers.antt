@@ -1,6 +1,6 @@
 use Rattle.std.proofs.Common.{◌≡◌, ◌+◌, ◌≤◌, ◌++◌, ◌∙◌, ℕ, List, length, ap, sym, subst, arith}
 use Rattle.peg_base.specs.NameText.{IsName}
-use Rattle.digit_names.specs.Digits.{digits, begins_name}
+use Rattle.digit_names.specs.Digits.{digits}
 use Rattle.digit_names.proofs.DigitLemmas.{length-digits, digits_pass, name_from_front}
 use Rattle.digit_names.proofs.numbered.Goals as goal
 
