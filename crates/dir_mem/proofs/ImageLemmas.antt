@@ -21,7 +21,7 @@ use Rattle.dir_mem.specs.Log.{state_of, told_by}
 use Rattle.dir_mem.specs.Sound.{IsSoundState, HasNoTop, ListsAll, WasFine, admits, allows, is_listed, is_short_content, is_short_member, is_sound}
 use Rattle.dir_mem.specs.Traces.{garbage, member_of, members_of, newest, shown}
 use Rattle.dir_mem.specs.Facts.{absent_from, allowed_now, allows_it, short_now}
-use Rattle.dir_mem.specs.Images.{CanStart, Files, HasNowFirst, IsFair, IsRightBefore, Passes, Shows, bytes_in, image_of, is_fair, oldest, seen, with_file}
+use Rattle.dir_mem.specs.Images.{CanBegin, Files, HasNowFirst, IsFair, IsRightBefore, Passes, Shows, bytes_in, image_of, is_fair, oldest, seen, with_file}
 use Rattle.dir_mem.proofs.EffectLemmas.{or_first, or_second, unlisted_absent}
 use Rattle.dir_mem.proofs.PastLemmas.{past_no_top}
 use Rattle.dir_mem.proofs.SoundLemmas.{admits_shown, short_shown, short_may}
@@ -150,7 +150,7 @@ fair_fits state image fair path = fair_allowed (state path) (image path) (fair p
 short_bytes : (content : Content) (bytes : List ℕ) → content ≡ Some bytes → is_short_content content ≡ true → length bytes ≤ 2 ^ 50
 short_bytes content bytes is short = leb-true (length bytes) (2 ^ 50) (ap is_short_content (sym is) ∙ short)
 
-pub fair_starts : (state : State) (image : Image) → HasNoTop state → IsFair state image → CanStart image
+pub fair_starts : (state : State) (image : Image) → HasNoTop state → IsFair state image → CanBegin image
 fair_starts state image none fair = record {
   short = λ path bytes is. short_bytes (image path) bytes is (and_parts (allows (state path).may (image path)) (is_short_content (image path)) (fair path)).1;
   no_top = ⊎_elim (λ gone. gone) (λ never. absurd never) (subst (λ (h : Held). Allows h.may (image [])) (absent_from (state []) none) (fair_allowed (state []) (image []) (fair [])));
@@ -215,7 +215,7 @@ shows_from (Ok images) call place steps paths before past fair now =
       place = place;
       before = before;
       fits = All-weaker (λ image. IsFair state (image_of image)) (λ image. Fits state (image_of image)) (λ image is. fair_fits state (image_of image) is) images.items fair;
-      starts = All-weaker (λ image. IsFair state (image_of image)) (λ image. CanStart (image_of image)) (λ image is. fair_starts state (image_of image) (past_no_top paths steps place past) is) images.items fair;
+      starts = All-weaker (λ image. IsFair state (image_of image)) (λ image. CanBegin (image_of image)) (λ image is. fair_starts state (image_of image) (past_no_top paths steps place past) is) images.items fair;
       now = now;
     }
 shows_from (Err fault) call place steps paths before past fair now = tt

@@ -18,7 +18,7 @@ use Rattle.dir_mem.specs.Traces.{newest, shown}
 use Rattle.dir_mem.specs.Sound.{admits, allows, is_short, is_short_content, is_short_member, is_sound, is_absent, is_open_end, IsSoundState, HasNoTop, LendsOpen, ListsAll, is_listed, loans_of}
 use Rattle.dir_mem.specs.Facts.{absent_from, allowed_now, present, short_now}
 use Rattle.dir_disk.specs.Moments.{files}
-use Rattle.dir_mem.specs.Lending.{after_lend, lent_out}
+use Rattle.dir_disk.specs.Children.{after_start, lent_out}
 use Rattle.dir_mem.specs.Effects.{Leads, broken, after_break}
 use Rattle.dir_mem.proofs.EffectLemmas.{if_false, if_true, one_change, or_first, or_neither, or_second}
 
@@ -229,22 +229,22 @@ sound_append_unless place bytes state too_long sound is fits =
 
 -- ---- an output that is lent
 
-one_changed : (changes : List Change) (change : Change) (place : Names) (state : State) → changes ≡ change ∷ [] → change.path ≡ place → replaced change (state place) ≡ lent_out (state place) → Leads changes state (after_lend place state)
+one_changed : (changes : List Change) (change : Change) (place : Names) (state : State) → changes ≡ change ∷ [] → change.path ≡ place → replaced change (state place) ≡ lent_out (state place) → Leads changes state (after_start place state)
 one_changed changes change place state one at makes path = one_change lent_out changes change place state one at makes path
 
 sound_lent : (held : Held) → is_sound held ≡ true → is_sound (lent_out held) ≡ true
 sound_lent held sound =
     sound_from (lent_out held) (or_second (admits Anything held.now) (allows held.may held.now) (allowed_now held sound)) (short_now held sound) (short_may held sound)
 
-sound_lend : (output : Names) (state : State) → IsSoundState state → IsSoundState (after_lend output state)
+sound_lend : (output : Names) (state : State) → IsSoundState state → IsSoundState (after_start output state)
 sound_lend output state sound path =
     chosen (same_path output path) (lent_out (state path)) (state path) (sound_lent (state path) (sound path)) (sound path)
 
-no_top_lend : (output : Names) (state : State) → output ≢ [] → HasNoTop state → HasNoTop (after_lend output state)
+no_top_lend : (output : Names) (state : State) → output ≢ [] → HasNoTop state → HasNoTop (after_start output state)
 no_top_lend [] state named none = absurd (named refl)
 no_top_lend (name ∷ output) state named none = none
 
-lend_others : (output : Names) (state : State) (path : Names) → under output path ≡ false → after_lend output state path ≡ state path
+lend_others : (output : Names) (state : State) (path : Names) → under output path ≡ false → after_start output state path ≡ state path
 lend_others output state path apart =
     if_false (same_path output path) (lent_out (state path)) (state path) (⊎_elim (λ same. absurd (false≢true (sym apart ∙ under-same output path same))) (λ other. other) (cases_Bool (same_path output path)))
 
@@ -260,27 +260,27 @@ open_push (first ∷ lent) lending state opens one =
 
 pub lends_sound : (change : Change) (output : Names) (state : State) → change.path ≡ output → replaced change (state output) ≡ lent_out (state output) → IsSoundState state → IsSoundState (after_changes (change ∷ []) state)
 lends_sound change output state at makes sound =
-    sound_same (after_lend output state) (after_changes (change ∷ []) state) (one_changed (change ∷ []) change output state refl at makes) (sound_lend output state sound)
+    sound_same (after_start output state) (after_changes (change ∷ []) state) (one_changed (change ∷ []) change output state refl at makes) (sound_lend output state sound)
 
 pub lends_no_top : (change : Change) (output : Names) (state : State) → change.path ≡ output → replaced change (state output) ≡ lent_out (state output) → output ≢ [] → HasNoTop state → HasNoTop (after_changes (change ∷ []) state)
 lends_no_top change output state at makes named none =
-    no_top_same (after_lend output state) (after_changes (change ∷ []) state) (one_changed (change ∷ []) change output state refl at makes) (no_top_lend output state named none)
+    no_top_same (after_start output state) (after_changes (change ∷ []) state) (one_changed (change ∷ []) change output state refl at makes) (no_top_lend output state named none)
 
 pub lends_open : (lent : List Lending) (lending : Lending) (change : Change) (output : Names) (state : State) → change.path ≡ output → replaced change (state output) ≡ lent_out (state output) → lending.output ≡ output → IsFree (loans_of lent) output → (state output).now ≡ None → IsSoundState state → LendsOpen lent state → LendsOpen (lent ++ lending ∷ []) (after_changes (change ∷ []) state)
 lends_open lent lending change output state at makes same free none sound opens =
     let leads = one_changed (change ∷ []) change output state refl at makes in
-    let others : LendsOpen lent (after_lend output state) = open_free lent output state (after_lend output state) (lend_others output state) free opens in
+    let others : LendsOpen lent (after_start output state) = open_free lent output state (after_start output state) (lend_others output state) free opens in
     let at_output : after_changes (change ∷ []) state output ≡ lent_out (state output) = leads output ∙ if_true (same_path output output) (lent_out (state output)) (state output) (same_path-refl output) in
-    open_push lent lending (after_changes (change ∷ []) state) (open_pointwise lent (after_lend output state) (after_changes (change ∷ []) state) leads others) (ap (λ (p : Names). is_open_end (after_changes (change ∷ []) state p)) same ∙ ap is_open_end at_output ∙ open_one (state output) none (sound output))
+    open_push lent lending (after_changes (change ∷ []) state) (open_pointwise lent (after_start output state) (after_changes (change ∷ []) state) leads others) (ap (λ (p : Names). is_open_end (after_changes (change ∷ []) state p)) same ∙ ap is_open_end at_output ∙ open_one (state output) none (sound output))
 
 pub lends_listed : (paths : List Names) (change : Change) (output : Names) (state : State) → change.path ≡ output → replaced change (state output) ≡ lent_out (state output) → is_listed paths output ≡ true → ListsAll paths state → ListsAll paths (after_changes (change ∷ []) state)
 lends_listed paths change output state at makes listed lists path =
     ⊎_elim (λ same. or_first (is_listed paths path) (is_absent (after_changes (change ∷ []) state path)) (subst (λ (p : Names). is_listed paths p ≡ true) (same_path-true output path same) listed)) (λ other. ap (λ (h : Held). is_listed paths path || is_absent h) (one_changed (change ∷ []) change output state refl at makes path ∙ if_false (same_path output path) (lent_out (state path)) (state path) other) ∙ lists path) (cases_Bool (same_path output path))
 
 -- the state after a loan is made
-pub lends_to : (change : Change) (output : Names) (old new : List Step) → change.path ≡ output → replaced change (state_of old output) ≡ lent_out (state_of old output) → state_of new ≡ after_changes (change ∷ []) (state_of old) → files (told_by new) ≡ after_lend output (files (told_by old))
+pub lends_to : (change : Change) (output : Names) (old new : List Step) → change.path ≡ output → replaced change (state_of old output) ≡ lent_out (state_of old output) → state_of new ≡ after_changes (change ∷ []) (state_of old) → files (told_by new) ≡ after_start output (files (told_by old))
 lends_to change output old new at makes reaches =
-    present new ∙ reaches ∙ same_state (after_changes (change ∷ []) (state_of old)) (after_lend output (state_of old)) (one_changed (change ∷ []) change output (state_of old) refl at makes) ∙ ap (after_lend output) (sym (present old))
+    present new ∙ reaches ∙ same_state (after_changes (change ∷ []) (state_of old)) (after_start output (state_of old)) (one_changed (change ∷ []) change output (state_of old) refl at makes) ∙ ap (after_start output) (sym (present old))
   where
     same_state : (s t : State) → ((path : Names) → s path ≡ t path) → s ≡ t
     same_state s t same = λ i path. same path i

@@ -25,7 +25,7 @@ image_of files path = bytes_in (get path_cmp files path)
 -- ---- a directory that is made from an image
 
 -- no file is too long, and none is at the path without names
-pub record CanStart (image : Image) : Type 0 where
+pub record CanBegin (image : Image) : Type 0 where
   pub short : (path : Names) (bytes : List ℕ) → image path ≡ Some bytes → length bytes ≤ 2 ^ 50
   pub no_top : image [] ≡ None
 
@@ -38,8 +38,8 @@ abbrev pub settled_files : Image → State
 settled_files image path = settled_as (image path)
 
 -- the state with one more file, which is settled
-abbrev pub after_start : Names → List ℕ → State → State
-after_start place bytes state path = if same_path place path then settled_as (Some bytes) else state path
+abbrev pub with_settled : Names → List ℕ → State → State
+with_settled place bytes state path = if same_path place path then settled_as (Some bytes) else state path
 
 -- ---- images of a moment
 
@@ -61,7 +61,7 @@ pub record Shows (call : ℕ) (told : Told) (images : List Files) : Type 0 where
   pub place : ℕ
   pub before : IsRightBefore call place told
   pub fits : All (λ files. Fits (told.at place).state (image_of files)) images
-  pub starts : All (λ files. CanStart (image_of files)) images
+  pub starts : All (λ files. CanBegin (image_of files)) images
   pub now : HasNowFirst (told.at place).state images
 
 -- ---- how an image is chosen

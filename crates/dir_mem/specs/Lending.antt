@@ -1,23 +1,9 @@
--- A path that is lent to a child to read, and one to write.
-use Rattle.std.specs.Prelude.{◌≡◌, Bool, true, ◌&&◌, List, ◌∷◌, ◌++◌, None, if◌then◌else◌}
+-- How a loan ends, and what is lent then.
+use Rattle.std.specs.Prelude.{◌≡◌, Bool, true, ◌&&◌, List, ◌∷◌, ◌++◌, if◌then◌else◌}
 use Rattle.std.specs.List.{list_any}
 use Rattle.peg_base.specs.Names.{Names, same_path}
 use Rattle.dir_disk.specs.Lent.{Loan}
-use Rattle.dir_disk.specs.State.{Anything, Content, Allows, Held, State}
-use Rattle.dir_disk.specs.Calls.{HasFile, CanAppend}
-
--- the input is there, and at the output nothing is or may be, and a file can be made there
-pub record CanLend (state : State) (input output : Names) : Type 0 where
-  pub there : HasFile state input
-  pub none : (content : Content) → Allows (state output).may content → content ≡ None
-  pub can : CanAppend state output
-
--- from now on a stop may leave anything at the output
-abbrev pub lent_out : Held → Held
-lent_out held = record { now = held.now; may = Anything ∷ held.may }
-
-abbrev pub after_lend : Names → State → State
-after_lend output state path = if same_path output path then lent_out (state path) else state path
+use Rattle.dir_disk.specs.State.{Content, Held, State}
 
 -- the child has ended, and has left this at its output
 abbrev pub left_with : Content → Held → Held

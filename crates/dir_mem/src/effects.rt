@@ -2,7 +2,7 @@ ghost use Rattle.std.specs.Prelude.{◌≡◌, ◌+◌, ◌<◌, ◌≤◌, [], 
 ghost use Rattle.peg_base.specs.Names.{Names, under, after_top};
 ghost use Rattle.dir_disk.specs.State.{appended, removed, settled, moved_to, arrival, bytes_of, after_append, after_move, after_remove, after_settle};
 ghost use Rattle.dir_disk.specs.Calls.{CanMove, HasFile};
-ghost use Rattle.dir_mem.specs.Lending.{lent_out};
+ghost use Rattle.dir_disk.specs.Children.{lent_out};
 ghost use Rattle.dir_mem.specs.Traces.{content_of, may_of, member_of, members_of};
 ghost use Rattle.dir_mem.specs.Log.{after_changes, change_at, replaced, state_of};
 ghost use Rattle.dir_mem.specs.Sound.{ListsAll};

@@ -3,7 +3,8 @@ ghost use Rattle.std.specs.List.{position};
 ghost use Rattle.peg_base.specs.Names.{same_path};
 ghost use Rattle.dir_disk.specs.Lent.{IsFree, IsNoOutput};
 ghost use Rattle.dir_disk.specs.Moments.{AddsBy, files};
-ghost use Rattle.dir_mem.specs.Lending.{CanLend, IsLent, TakesOff, after_lend, after_loan};
+ghost use Rattle.dir_disk.specs.Children.{CanStart, after_start};
+ghost use Rattle.dir_mem.specs.Lending.{IsLent, TakesOff, after_loan};
 
 use crate::effects::lend_of;
 use crate::log::Change;
@@ -35,11 +36,11 @@ impl MemDir {
     pub fn lend(&mut self, alloc: Global, input: &Path, output: &Path) -> Result<Loan, NoMemory>
         requires read { IsNoOutput (lent_of self.old) input.now }
         requires free { IsFree (lent_of self.old) output.now }
-        requires can { CanLend (files (told_of self.old)) input.now output.now }
+        requires can { CanStart (files (told_of self.old)) input.now output.now }
         ensures loan { IfOk result (λ loan. loan ≡ record { input = input.now; output = output.now }) }
         ensures step { OnOk result (AddsBy 0 (told_of self.old) (told_of self.new)) }
         ensures state { OnOk result
-            (files (told_of self.new) ≡ after_lend output.now (files (told_of self.old))) }
+            (files (told_of self.new) ≡ after_start output.now (files (told_of self.old))) }
         ensures lent { IfOk result (λ loan. lent_of self.new ≡ lent_of self.old ++ loan ∷ []) }
         ensures is_lent { IfOk result (λ loan. IsLent loan (lent_of self.new)) }
         ensures err { OnErr result (told_of self.new ≡ told_of self.old) }

@@ -6,7 +6,7 @@ ghost use Rattle.dir_disk.specs.State.{Allows, Content};
 ghost use Rattle.dir_disk.specs.Moments.{files};
 ghost use Rattle.dir_disk.specs.Calls.{CanAppend, CanMove, HasFile};
 ghost use Rattle.dir_disk.specs.Lent.{IsFree, IsNoOutput};
-ghost use Rattle.dir_mem.specs.Lending.{CanLend};
+ghost use Rattle.dir_disk.specs.Children.{CanStart};
 ghost use Rattle.dir_mem.specs.Log.{state_of};
 ghost use Rattle.dir_mem.specs.Looking.{is_file_under, is_gone, is_in_way, is_too_deep};
 ghost use Rattle.dir_mem.specs.Sound.{ListsAll};
@@ -171,7 +171,7 @@ impl MemDir {
 
     /// Whether the paths can be lent: the one to be read, the other to be written.
     pub fn can_lend(&self, input: &Path, output: &Path) -> bool
-        ensures { result ≡ true → CanLend (files (told_of self.now)) input.now output.now }
+        ensures { result ≡ true → CanStart (files (told_of self.now)) input.now output.now }
     {
         self.has_file(input) && self.leaves_none(output) && self.can_append(output)
     }

@@ -1,6 +1,6 @@
 ghost use Rattle.std.specs.Prelude.{◌≡◌, ◌≢◌, ◌^◌, ◌≤◌, [], length, IfOk, OnOk};
 ghost use Rattle.dir_disk.specs.State.{no_files};
-ghost use Rattle.dir_mem.specs.Images.{CanStart, after_start, image_of, settled_files};
+ghost use Rattle.dir_mem.specs.Images.{CanBegin, with_settled, image_of, settled_files};
 ghost use Rattle.dir_mem.specs.Log.{AddsStep, state_of};
 ghost use Rattle.dir_disk.specs.Moments.{clock, files};
 ghost use Rattle.dir_mem.specs.Memory.{fail_of, faults_of, lent_of, told_of};
@@ -37,7 +37,7 @@ impl MemDir {
 
     /// A directory that has the files of the image for good. No call was made, nothing is lent, and no call is to fail.
     pub fn from_image(alloc: Global, mut image: Image) -> Result<MemDir, NoMemory>
-        requires { CanStart (image_of image) }
+        requires { CanBegin (image_of image) }
         ensures tells { ⟦<MemDir as Dir>⟧.tells }
         ensures calls { IfOk result (λ dir. clock (told_of dir) ≡ 0) }
         ensures files { IfOk result (λ dir. files (told_of dir) ≡ settled_files (image_of image)) }
@@ -58,7 +58,7 @@ impl MemDir {
         requires short { length bytes.items ≤ 2 ^ 50 }
         requires lent { self.old.lent.items ≡ [] }
         ensures ok { OnOk result (AddsStep 0 self.old.steps.items self.new.steps.items
-            (after_start path bytes.items (state_of self.old.steps.items))) }
+            (with_settled path bytes.items (state_of self.old.steps.items))) }
         ensures lent { self.new.lent.items ≡ [] }
         ensures fail { self.new.fail ≡ self.old.fail }
         ensures faults { self.new.faults ≡ self.old.faults }

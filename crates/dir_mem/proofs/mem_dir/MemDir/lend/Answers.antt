@@ -6,7 +6,8 @@ use Rattle.dir_disk.specs.Lent.{Loan, IsFree}
 use Rattle.dir_mem.specs.declared.log.Step.{Step}
 use Rattle.dir_mem.specs.declared.mem_dir.Lending.{Lending}
 use Rattle.dir_mem.specs.Log.{replaced, state_of, told_by}
-use Rattle.dir_mem.specs.Lending.{IsLent, after_lend, lent_out}
+use Rattle.dir_mem.specs.Lending.{IsLent}
+use Rattle.dir_disk.specs.Children.{after_start, lent_out}
 use Rattle.dir_mem.specs.Facts.{allowed_now, allows_it, present}
 use Rattle.dir_mem.specs.Sound.{loans_of}
 use Rattle.dir_mem.proofs.LoanLemmas.{lent_last, loan_of, loans_append}
@@ -50,7 +51,7 @@ add_loan-requires-clause-open_ends c =
     lends_open c.list_one.new.self.lent.items lending change output state c.in_ok-change.ensures.path makes c.in_ok-copy-4.ensures free none c.list_one.new.self.sound c.list_one.new.self.open_ends
 
 abbrev lends_goal : List Step → List Step → Names → Type 0
-lends_goal old new output = files (told_by new) ≡ after_lend output (files (told_by old))
+lends_goal old new output = files (told_by new) ≡ after_start output (files (told_by old))
 
 pub returns-clause-state : goal.returns-clause-state
 returns-clause-state c =
