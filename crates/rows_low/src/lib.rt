@@ -1,0 +1,9 @@
+//! Tests of the crates below the driver, over a directory in memory.
+#![tactic(auto)]
+
+#[cfg(test)]
+mod dir_rows;
+#[cfg(test)]
+mod tools;
+#[cfg(test)]
+mod tried_dir;

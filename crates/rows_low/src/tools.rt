@@ -1,0 +1,71 @@
+ghost use Rattle.std.specs.Prelude.{All, IfOk};
+ghost use Rattle.dir_mem.specs.Images.{CanStart, image_of};
+
+use crate::tried_dir::TriedDir;
+use dir_mem::{Image, MemDir};
+use peg_base::{Name, Path};
+use std::alloc::Global;
+use std::test::Fail;
+
+/// The path of these names.
+pub(crate) fn path_of(alloc: Global, names: &[&[u8]]) -> Result<Path, Fail> {
+    let mut path = Path::root(alloc);
+    for text in names {
+        let Some(name) = Name::new(alloc, text)? else {
+            return Err("no name")?;
+        };
+        if path.names().len() >= 8 {
+            return Err("too many names")?;
+        }
+        path = path.child(alloc, &name)?;
+    }
+    Ok(path)
+}
+
+/// A directory without files, whose call of this number fails.
+pub(crate) fn failing(alloc: Global, call: u64) -> Result<TriedDir, Fail> {
+    let mut dir = MemDir::new(alloc);
+    dir.fail(vec![in alloc; call]?);
+    Ok(TriedDir { dir })
+}
+
+/// A directory without files.
+pub(crate) fn empty(alloc: Global) -> TriedDir {
+    TriedDir {
+        dir: MemDir::new(alloc),
+    }
+}
+
+/// The images of a moment. A directory can be made from each.
+pub(crate) fn images_of(alloc: Global, dir: &TriedDir, moment: u64) -> Result<Vec<Image>, Fail>
+    ensures { IfOk result (λ images. All (λ image. CanStart (image_of image)) images.items) }
+{
+    if moment > dir.dir.calls() {
+        return Err("no such moment")?;
+    }
+    Ok(dir.dir.images(alloc, moment)?)
+}
+
+/// An image as text: each path, `=`, its bytes and `;`.
+fn push_image(text: &mut Vec<u8>, image: &Image) -> Result<(), Fail> {
+    for (path, bytes) in image {
+        for name in path.names() {
+            text.push(b'/')?;
+            text.extend_from_slice(name.text().as_bytes())?;
+        }
+        text.push(b'=')?;
+        text.extend_from_slice(bytes)?;
+        text.push(b';')?;
+    }
+    Ok(())
+}
+
+/// The images of a moment as text, each with a `|` behind it.
+pub(crate) fn text_of(alloc: Global, dir: &TriedDir, moment: u64) -> Result<Vec<u8>, Fail> {
+    let mut text = Vec::new(alloc);
+    for image in &images_of(alloc, dir, moment)? {
+        push_image(&mut text, image)?;
+        text.push(b'|')?;
+    }
+    Ok(text)
+}
