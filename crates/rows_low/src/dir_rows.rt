@@ -146,9 +146,9 @@ fn numbered(alloc: Global, number: u32) -> Result<Path, Fail> {
 /// One call of many: files are appended to, some are removed, and now and then all are settled.
 fn one_of_many(alloc: Global, dir: &mut TriedDir, call: u32) -> Result<u8, Fail> {
     let path = numbered(alloc, call % 200 * 7 % 200)?;
-    Ok(match call % 20 {
-        10 => letter(dir.remove_tree(alloc, &path)),
-        19 => letter(dir.settle(alloc, &Path::root(alloc))),
+    Ok(match call % 10 {
+        4 => letter(dir.remove_tree(alloc, &path)),
+        9 => letter(dir.settle(alloc, &Path::root(alloc))),
         _ => letter(dir.append(alloc, &path, b"a line\n")),
     })
 }
