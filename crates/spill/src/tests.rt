@@ -1,3 +1,5 @@
+ghost use Rattle.std.specs.Prelude.{◌≡◌, length, IfOk};
+
 use crate::Spill;
 use dir_disk::{Dir, SilentDir};
 use peg_base::{Name, Path};
@@ -6,7 +8,9 @@ use std::alloc::Global;
 use std::process::Abort;
 use std::test::Fail;
 
-fn folder(rt: &impl Abort, alloc: Global) -> Result<Path, NoMemory> {
+fn folder(rt: &impl Abort, alloc: Global) -> Result<Path, NoMemory>
+    ensures { IfOk result (λ path. length path ≡ 1) }
+{
     let name = Name::new(alloc, b"shuffle")?.expect(rt, "a name");
     Path::root(alloc).child(alloc, &name)
 }
