@@ -1,13 +1,12 @@
 -- Pairs dealt out to their parts, and sorted there.
-use Rattle.std.proofs.Common.{◌≡◌, ◌∙◌, ap, sym, refl, ℕ, zero, suc, ◌+◌, ◌<◌, ◌≤◌, ◌==◌, Bool, true, false, cond, ◌⊎◌, inl, inr, ⊎_elim, List, [], ◌∷◌, ◌++◌, length, get_or, set, map, replicate, take, arith}
+use Rattle.std.proofs.Common.{◌≡◌, ◌∙◌, ap, sym, refl, ℕ, ◌+◌, ◌<◌, ◌==◌, Bool, true, false, cond, ⊎_elim, List, [], ◌∷◌, ◌++◌, length, get_or, set, map, replicate, take, arith}
 use Rattle.std.specs.Borrow.{Bor}
 use Rattle.std.specs.Cmp.Lexicographic.{slice_cmp}
 use Rattle.std.specs.declared.cmp.Ordering.{Ordering}
-use Rattle.std.specs.List.{filter, range_with_len}
 use Rattle.std.specs.List.Sorted.{IsPermutation, IsSorted}
 use Rattle.std.specs.Ordering.{nat_cmp, ordering_then, is_lt}
 use Rattle.std.proofs.lemmas.Bool.{cases_eq, eq-eqb, ne_eqb}
-use Rattle.std.proofs.lemmas.List.{same_lists, map-append, map-set, length-set, get_or-map, get_or-set_same, get_or-set_other, append-nil, length-map, map_more, length-replicate, get_or-replicate}
+use Rattle.std.proofs.lemmas.List.{same_lists, length-set, get_or-map, get_or-set_same, get_or-set_other, append-nil, length-map, map_more, length-replicate, get_or-replicate}
 use Rattle.std.proofs.lemmas.List.Elements.{filter-append}
 use Rattle.std.proofs.lemmas.List.FromFn.{get_or-map-range_with_len, length-map-range_with_len}
 use Rattle.std.proofs.lemmas.List.Sorted.{IsPermutation-map}
@@ -16,7 +15,7 @@ use Rattle.peg_text.specs.Pairs.{key_of, value_of}
 use Rattle.pairs.specs.Pairs.{Pair, pair_of, pair_cmp, IsInOrder, sorted_pairs}
 use Rattle.pairs.proofs.PairLemmas.{in_order_is_sorted}
 use Rattle.spill.specs.Runs.{of_part}
-use Rattle.spill.specs.Chunks.{texts, parts_of, sorted_parts_of}
+use Rattle.spill.specs.Chunks.{texts, parts_of}
 
 -- ---- dealing
 

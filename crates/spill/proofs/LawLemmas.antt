@@ -1,20 +1,20 @@
 -- The laws of runs.
-use Rattle.std.proofs.Common.{◌≡◌, ◌≢◌, ◌∙◌, ap, sym, refl, subst, ℕ, zero, suc, ◌+◌, ◌^◌, ◌<◌, ◌≤◌, ◌==◌, true, false, ◌⊎◌, inl, inr, ⊎_elim, List, [], ◌∷◌, ◌++◌, None, Some, length, get_or, codes, arith}
+use Rattle.std.proofs.Common.{◌≡◌, ◌≢◌, ◌∙◌, ap, sym, refl, subst, ℕ, suc, ◌+◌, ◌<◌, ◌≤◌, ◌==◌, ⊎_elim, List, [], ◌∷◌, ◌++◌, None, Some, length, get_or, arith}
 use Rattle.std.specs.List.{flat_map}
 use Rattle.std.specs.List.Sorted.{IsPermutation}
-use Rattle.std.proofs.lemmas.Bool.{cases_lt, cases_eq}
+use Rattle.std.proofs.lemmas.Bool.{cases_lt}
 use Rattle.std.proofs.lemmas.List.{length_push, append-nil, append_assoc, get_or_append_left, get_or_at}
 use Rattle.std.proofs.lemmas.List.Elements.{filter-append}
 use Rattle.std.proofs.lemmas.List.Sorted.{IsPermutation-refl, IsPermutation-append}
 use Rattle.partition.specs.Hash.{part_among}
-use Rattle.peg_base.specs.Names.{Names, under}
+use Rattle.peg_base.specs.Names.{Names}
 use Rattle.peg_base.proofs.Under.{under-refl}
-use Rattle.dir_disk.specs.State.{Content, Held, State}
+use Rattle.dir_disk.specs.State.{Content, Held}
 use Rattle.digit_names.specs.Digits.{digits}
 use Rattle.pairs.specs.Pairs.{Pair, pairs_text, sorted_pairs}
 use Rattle.pairs.proofs.PairLemmas.{sorted_is_permutation}
-use Rattle.spill.specs.Runs.{of_part, run_name, run_of, run_content, new_runs, HasRuns, StandsBesideRuns}
-use Rattle.spill.specs.Laws.{RunsAreApart, HasChunks, FlushesAddUp, paths_of, PathsAddUp, RunsHoldThePairs, NamesByExample}
+use Rattle.spill.specs.Runs.{of_part, run_name, run_of, run_content, new_runs}
+use Rattle.spill.specs.Laws.{RunsAreApart, FlushesAddUp, paths_of, PathsAddUp, RunsHoldThePairs, NamesByExample}
 use Rattle.spill.proofs.RunNames.{run_names_tell, run_names_differ, children_apart}
 
 pub runs_are_apart : RunsAreApart

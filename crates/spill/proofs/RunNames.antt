@@ -1,12 +1,9 @@
 -- The names of runs are names, and differ.
-use Rattle.std.proofs.Common.{◌≡◌, ◌≢◌, ◌∙◌, ap, sym, refl, subst, ℕ, ◌+◌, ◌^◌, ◌<◌, ◌≤◌, true, false, ⊎_elim, List, [], ◌∷◌, ◌++◌, length, codes, arith, length-append}
-use Rattle.std.specs.List.{list_all}
-use Rattle.std.proofs.lemmas.Bool.{and_from, false≢true, cases_Bool}
+use Rattle.std.proofs.Common.{◌≡◌, ◌≢◌, ◌∙◌, sym, refl, subst, ℕ, ◌^◌, ◌<◌, true, false, ⊎_elim, List, [], ◌∷◌, ◌++◌, length, codes, arith, length-append}
+use Rattle.std.proofs.lemmas.Bool.{false≢true, cases_Bool}
 use Rattle.std.proofs.lemmas.List.{append_assoc}
 use Rattle.peg_base.specs.Names.{Names, under, after_top}
 use Rattle.peg_base.proofs.Under.{under-split, under-children, under-refl, under-trans}
-use Rattle.std.proofs.lemmas.List.Folds.{list_all-append}
-use Rattle.peg_base.specs.NameText.{is_name_byte}
 use Rattle.digit_names.specs.Digits.{digits, begins_name}
 use Rattle.digit_names.proofs.DigitLemmas.{length-digits, digits_pass, begins_name-append, digits_tell_numbers}
 use Rattle.spill.specs.Runs.{run_name}

@@ -1,12 +1,12 @@
 -- The pairs that a spill holds as text, and the runs of a flush by their parts.
-use Rattle.std.proofs.Common.{◌≡◌, ◌∙◌, ap, sym, refl, subst, ℕ, zero, suc, ◌+◌, ◌*◌, ◌<◌, ◌≤◌, true, false, List, [], ◌∷◌, ◌++◌, Some, length, get_or, map, arith, length-append}
+use Rattle.std.proofs.Common.{◌≡◌, ◌∙◌, ap, sym, refl, subst, ℕ, ◌+◌, ◌*◌, ◌<◌, ◌≤◌, List, [], ◌∷◌, ◌++◌, Some, length, get_or, arith, length-append}
 use Rattle.std.specs.List.{All, sum_by}
-use Rattle.std.proofs.lemmas.List.{length-map, length_push, get_or-map, append-nil, append_assoc}
+use Rattle.std.proofs.lemmas.List.{length-map, length_push, get_or-map, append-nil}
 use Rattle.std.proofs.lemmas.List.Elements.{All-push, All-nil}
 use Rattle.std.proofs.lemmas.List.Sorted.{length_permutation}
 use Rattle.std.proofs.lemmas.List.Sums.{sum_by-cons}
 use Rattle.peg_text.specs.Pairs.{pair_line}
-use Rattle.peg_base.specs.Names.{Names, under}
+use Rattle.peg_base.specs.Names.{Names}
 use Rattle.dir_disk.specs.State.{State}
 use Rattle.dir_disk.specs.Moments.{Told, Through, Both, files}
 use Rattle.dir_disk.specs.Lent.{Loan, IsFree}

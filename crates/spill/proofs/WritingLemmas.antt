@@ -1,18 +1,18 @@
 -- What appends leave of the files of runs.
-use Rattle.std.proofs.Common.{◌≡◌, ◌≢◌, ◌∙◌, ap, sym, refl, subst, ℕ, zero, suc, ◌+◌, ◌<◌, ◌≤◌, Bool, true, false, if◌then◌else◌, ◌⊎◌, inl, inr, ⊎_elim, List, [], ◌∷◌, ◌++◌, None, Some, Result, length, get_or, set, take, map, arith}
-use Rattle.std.proofs.lemmas.Bool.{false≢true, cases_Bool, cases_lt}
+use Rattle.std.proofs.Common.{◌≡◌, ◌≢◌, ◌∙◌, ap, sym, refl, subst, ℕ, ◌+◌, ◌<◌, ◌≤◌, Bool, true, false, if◌then◌else◌, ◌⊎◌, inl, inr, ⊎_elim, List, [], ◌∷◌, ◌++◌, Some, Result, length, get_or, set, take, arith}
+use Rattle.std.proofs.lemmas.Bool.{false≢true, cases_lt}
 use Rattle.std.proofs.lemmas.Grind.{flat_map-append}
 use Rattle.std.proofs.lemmas.List.{append_assoc, append-nil, map_more, get_or_past, get_or-set_same, get_or-set_other}
 use Rattle.std.specs.Borrow.{Bor}
 use Rattle.peg_text.specs.Pairs.{pair_line}
 use Rattle.peg_base.specs.Names.{Names, under, same_path}
-use Rattle.peg_base.proofs.Under.{under-refl, under-long, under-children, same_path_comm, same_path-refl, under-same}
+use Rattle.peg_base.proofs.Under.{under-refl, same_path_comm, same_path-refl}
 use Rattle.dir_disk.specs.declared.dir.DirFault.{DirFault}
-use Rattle.dir_disk.specs.State.{Content, Held, State, IsSound, StandsOutside, bytes_of, appended, after_append}
+use Rattle.dir_disk.specs.State.{Held, State, IsSound, StandsOutside, bytes_of, appended, after_append}
 use Rattle.dir_disk.specs.Calls.{Append, CanAppend, Does}
 use Rattle.dir_disk.specs.Moments.{Told, Through, Both, files}
-use Rattle.dir_disk.proofs.Steps.{Steps, stands_call, appended_at}
-use Rattle.dir_disk.proofs.Through.{started, goes_on, then_goes, keeps, kept, weaker}
+use Rattle.dir_disk.proofs.Steps.{stands_call, appended_at}
+use Rattle.dir_disk.proofs.Through.{goes_on, then_goes, kept, weaker}
 use Rattle.pairs.specs.Pairs.{Pair, pairs_text}
 use Rattle.spill.specs.Runs.{run_of, run_name, new_runs, IsVacant}
 use Rattle.spill.proofs.RunNames.{run_names_differ, children_apart, child_not_above}

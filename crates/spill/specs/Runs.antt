@@ -1,5 +1,5 @@
 -- The runs that one flush writes: a sorted file for each part that has pairs.
-use Rattle.std.specs.Prelude.{◌≡◌, ◌+◌, ◌-◌, ℕ, ◌<◌, ◌==◌, false, List, [], ◌∷◌, ◌++◌, None, Some, codes}
+use Rattle.std.specs.Prelude.{◌≡◌, ℕ, ◌<◌, ◌==◌, false, List, [], ◌∷◌, ◌++◌, None, Some, codes}
 use Rattle.std.specs.List.{filter}
 use Rattle.partition.specs.Hash.{part_among}
 use Rattle.peg_base.specs.Names.{Names, under}

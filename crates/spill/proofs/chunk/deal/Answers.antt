@@ -1,8 +1,8 @@
-use Rattle.std.proofs.Common.{◌≡◌, ◌∙◌, ◌+◌, ◌<◌, ◌++◌, ℕ, List, [], ◌∷◌, map, take, length, get_or, set, ap, sym, refl, subst, arith, Vec, Global}
+use Rattle.std.proofs.Common.{◌≡◌, ◌∙◌, ◌<◌, ◌++◌, ℕ, List, [], ◌∷◌, map, take, length, get_or, set, ap, sym, subst, arith, Vec, Global}
 use Rattle.std.specs.Borrow.{Bor}
 use Rattle.std.proofs.lemmas.List.{length-map, map-append, map-set, get_or-map, take_all}
 use Rattle.peg_text.specs.Records.{records_of}
-use Rattle.pairs.specs.Pairs.{Pair, pair_of, pairs_in}
+use Rattle.pairs.specs.Pairs.{Pair, pair_of}
 use Rattle.partition.specs.Hash.{part_among}
 use Rattle.spill.specs.Chunks.{texts, parts_of}
 use Rattle.spill.proofs.ChunkLemmas.{none_dealt, length-parts_of, dealt_line}

@@ -1,10 +1,10 @@
-use Rattle.std.proofs.Common.{◌≡◌, ◌∙◌, ◌+◌, ◌<◌, ◌≤◌, ◌++◌, ℕ, List, [], ◌∷◌, map, take, drop, length, get_or, set, ap, sym, refl, subst, arith, Vec, Global}
+use Rattle.std.proofs.Common.{◌≡◌, ◌∙◌, ◌<◌, ◌≤◌, ◌++◌, ℕ, List, map, drop, length, get_or, set, ap, sym, arith, Vec, Global}
 use Rattle.std.specs.Borrow.{Bor}
 use Rattle.std.proofs.lemmas.List.{length-map, map-set, get_or-map, take_all, drop_all, take_at, append-nil}
 use Rattle.std.proofs.lemmas.List.Edits.{map_over_more}
 use Rattle.pairs.specs.Pairs.{Pair, pairs_in, sorted_pairs}
 use Rattle.spill.specs.Chunks.{texts, parts_of}
-use Rattle.spill.proofs.ChunkLemmas.{length-parts_of, sorted_texts}
+use Rattle.spill.proofs.ChunkLemmas.{sorted_texts}
 use Rattle.spill.proofs.chunk.sorted_parts.Goals as goal
 
 -- what a vector of slices holds

@@ -1,8 +1,7 @@
-use Rattle.std.proofs.Common.{◌≡◌, ◌<◌, ◌≤◌, ◌+◌, ◌++◌, ◌∷◌, [], ◌∙◌, length, codes, IfOk, ℕ, List, ap, sym, subst, arith}
+use Rattle.std.proofs.Common.{◌≡◌, ◌++◌, ◌∷◌, [], ◌∙◌, length, codes, IfOk, ℕ, List, ap, sym, subst, arith}
 use Rattle.std.specs.Bool.{IsTrue}
-use Rattle.std.proofs.lemmas.Result.{IfOk-weaker}
 use Rattle.digit_names.specs.Digits.{digits, begins_name}
-use Rattle.spill.specs.Runs.{run_name, run_of}
+use Rattle.spill.specs.Runs.{run_name}
 use Rattle.spill.proofs.RunNames.{run_front, run_front_begins_name, length-run_front}
 use Rattle.spill.proofs.names.run_path.Goals as goal
 

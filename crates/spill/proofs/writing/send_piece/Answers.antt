@@ -1,4 +1,4 @@
-use Rattle.std.proofs.Common.{◌≡◌, ◌∙◌, ◌++◌, ℕ, List, ap}
+use Rattle.std.proofs.Common.{◌∙◌, ◌++◌, ℕ, List, ap}
 use Rattle.std.proofs.lemmas.List.{append-nil}
 use Rattle.dir_disk.specs.State.{StandsOutside, bytes_of}
 use Rattle.dir_disk.specs.Moments.{Told, Both, files}

@@ -1,4 +1,4 @@
-use Rattle.std.proofs.Common.{◌≡◌, ◌∙◌, ◌++◌, ℕ, List, Some, ap, arith, rules}
+use Rattle.std.proofs.Common.{◌∙◌, ℕ, List, Some, ap, arith, rules}
 use Rattle.std.proofs.lemmas.List.{take_all}
 use Rattle.std.specs.Borrow.{Bor}
 use Rattle.dir_disk.specs.Moments.{Told, files}

@@ -1,10 +1,9 @@
-use Rattle.std.proofs.Common.{◌≡◌, ◌∙◌, ◌+◌, ◌<◌, ◌≤◌, ℕ, List, [], map, length, ap, sym, subst, arith, rules, Vec, Global}
+use Rattle.std.proofs.Common.{◌≡◌, ◌∙◌, ◌+◌, ℕ, List, [], map, length, ap, sym, arith, rules, Vec, Global}
 use Rattle.std.specs.Borrow.{Bor}
 use Rattle.std.proofs.lemmas.List.{length-map, get_or-map}
-use Rattle.dir_disk.specs.Moments.{Told, files}
 use Rattle.pairs.specs.Pairs.{Pair}
 use Rattle.spill.specs.Chunks.{texts, list_at}
-use Rattle.spill.proofs.WritingLemmas.{run_more, written_more, written_all}
+use Rattle.spill.proofs.WritingLemmas.{run_more, written_more}
 use Rattle.spill.proofs.writing.write_runs.Goals as goal
 
 -- what a vector of slices holds

@@ -1,8 +1,8 @@
-use Rattle.std.proofs.Common.{◌≡◌, ◌∙◌, ◌<◌, ◌++◌, [], ℕ, List, map, get_or, ap, sym, subst, Some, Vec, Global}
+use Rattle.std.proofs.Common.{◌≡◌, ◌<◌, ◌++◌, [], ℕ, List, map, get_or, sym, subst, Vec, Global}
 use Rattle.std.specs.List.{All}
 use Rattle.peg_base.specs.Names.{Names}
 use Rattle.dir_disk.specs.Moments.{Told, Through, Both, files}
-use Rattle.pairs.specs.Pairs.{Pair, IsPlain, pairs_in}
+use Rattle.pairs.specs.Pairs.{IsPlain, pairs_in}
 use Rattle.spill.specs.Runs.{new_runs, StandsBesideRuns, HasRuns}
 use Rattle.spill.specs.Chunks.{sorted_parts_of, AreListsFree, AreListsVacant, StandsBesideLists, HasLists, AreNoted}
 use Rattle.spill.specs.Spills.{Held, pairs_at, runs_at, next_run, AreFree, AreVacant}

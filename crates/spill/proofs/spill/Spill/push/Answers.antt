@@ -1,4 +1,4 @@
-use Rattle.std.proofs.Common.{◌≡◌, ◌∙◌, ◌+◌, ◌*◌, ◌++◌, ◌∷◌, [], ℕ, List, length, ap, sym, subst, arith}
+use Rattle.std.proofs.Common.{◌≡◌, ◌∙◌, ◌+◌, ◌++◌, ◌∷◌, [], ℕ, List, length, ap, sym, subst, arith}
 use Rattle.pairs.specs.Pairs.{Pair, pairs_in}
 use Rattle.spill.specs.contracts.spill.Spill.{the_view}
 use Rattle.spill.specs.Spills.{Held, IsWell, with_pair}
