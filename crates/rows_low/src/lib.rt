@@ -2,7 +2,13 @@
 #![tactic(auto)]
 
 #[cfg(test)]
+mod committer_rows;
+#[cfg(test)]
 mod dir_rows;
+#[cfg(test)]
+mod spill_rows;
+#[cfg(test)]
+mod split_rows;
 #[cfg(test)]
 mod tools;
 #[cfg(test)]

@@ -1,5 +1,5 @@
 ghost use Rattle.std.specs.Prelude.{All, IfOk};
-ghost use Rattle.dir_mem.specs.Images.{CanStart, image_of};
+ghost use Rattle.dir_mem.specs.Images.{CanBegin, image_of};
 
 use crate::tried_dir::TriedDir;
 use dir_mem::{Image, MemDir};
@@ -38,7 +38,7 @@ pub(crate) fn empty(alloc: Global) -> TriedDir {
 
 /// The images of a moment. A directory can be made from each.
 pub(crate) fn images_of(alloc: Global, dir: &TriedDir, moment: u64) -> Result<Vec<Image>, Fail>
-    ensures { IfOk result (λ images. All (λ image. CanStart (image_of image)) images.items) }
+    ensures { IfOk result (λ images. All (λ image. CanBegin (image_of image)) images.items) }
 {
     if moment > dir.dir.calls() {
         return Err("no such moment")?;
