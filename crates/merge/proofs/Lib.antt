@@ -1,0 +1,6 @@
+pub mod MergeLemmas
+pub mod OpenLemmas
+pub mod PassLemmas
+pub mod SourceLemmas
+pub mod StepLemmas
+pub mod WriteLemmas

@@ -1,0 +1,5 @@
+pub mod Faults
+pub mod Heads
+pub mod Runs
+pub mod Sources
+pub mod Writing

@@ -1,0 +1,12 @@
+//! Sorted runs of pairs, merged into one file, over any directory.
+#![tactic(auto)]
+
+mod fault;
+mod head;
+mod merging;
+mod passes;
+mod source;
+mod writing;
+
+pub use fault::MergeFault;
+pub use passes::merge_runs;
