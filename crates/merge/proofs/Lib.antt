@@ -1,3 +1,4 @@
+pub mod LawLemmas
 pub mod MergeLemmas
 pub mod OpenLemmas
 pub mod PassLemmas
