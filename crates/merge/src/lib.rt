@@ -11,3 +11,6 @@ mod writing;
 
 pub use fault::MergeFault;
 pub use passes::merge_runs;
+
+#[cfg(test)]
+mod tests;
