@@ -315,6 +315,7 @@ fn four_children_run_at_once(rt: HostRuntime) -> Result<(), Fail> {
     assert_eq!(rt; reap(&mut site)?, 0);
     assert_eq!(rt; reap(&mut site)?, 0);
     assert_eq!(rt; reap(&mut site)?, 0);
+    let mut site = site_at(&rt, place.as_str())?;
     assert!(rt; reads(&rt, &mut site, ["w", ""], 0, 99, b"b\na\n")?);
     assert!(rt; reads(&rt, &mut site, ["x", ""], 0, 99, b"a\nb\n")?);
     assert!(rt; reads(&rt, &mut site, ["y", ""], 0, 99, b"2\n")?);
@@ -323,18 +324,26 @@ fn four_children_run_at_once(rt: HostRuntime) -> Result<(), Fail> {
     Ok(())
 }
 
+/// The status of a child of these words, whose input is empty.
+fn status_of(rt: &HostRuntime, place: &str, texts: &[&str]) -> Result<i32, Fail> {
+    let mut site = site_at(rt, place)?;
+    start(rt, &mut site, texts, "in", "out")?;
+    reap(&mut site)
+}
+
 #[test]
 fn children_that_fail_have_the_status_of_their_end(rt: HostRuntime) -> Result<(), Fail> {
     let place = own_place(&rt, "failing")?;
     let mut site = site_at(&rt, place.as_str())?;
     assert!(rt; append(&rt, &mut site, ["in", ""], b"")?);
-    start(&rt, &mut site, &["no-program-of-this-name"], "in", "x")?;
-    assert_eq!(rt; reap(&mut site)?, 127);
-    assert!(rt; append(&rt, &mut site, ["other", ""], b"")?);
-    start(&rt, &mut site, &["sh", "-c", "kill -9 $$"], "in", "y")?;
-    assert_eq!(rt; reap(&mut site)?, 255, "a signal");
-    start(&rt, &mut site, &["sh", "-c", "exit 66"], "in", "z")?;
-    assert_eq!(rt; reap(&mut site)?, 66);
+    let place = place.as_str();
+    assert_eq!(rt; status_of(&rt, place, &["no-program-of-this-name"])?, 127);
+    assert_eq!(rt;
+        status_of(&rt, place, &["sh", "-c", "kill -9 $$"])?,
+        255,
+        "a signal"
+    );
+    assert_eq!(rt; status_of(&rt, place, &["sh", "-c", "exit 66"])?, 66);
     assert!(rt; remove(&rt, &mut site, ["", ""])?);
     Ok(())
 }
