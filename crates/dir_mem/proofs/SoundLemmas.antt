@@ -273,6 +273,21 @@ lends_open lent lending change output state at makes same free none sound opens 
     let at_output : after_changes (change ∷ []) state output ≡ lent_out (state output) = leads output ∙ if_true (same_path output output) (lent_out (state output)) (state output) (same_path-refl output) in
     open_push lent lending (after_changes (change ∷ []) state) (open_pointwise lent (after_start output state) (after_changes (change ∷ []) state) leads others) (ap (λ (p : Names). is_open_end (after_changes (change ∷ []) state p)) same ∙ ap is_open_end at_output ∙ open_one (state output) none (sound output))
 
+-- what was open at the end stays so where a stop may leave anything
+pub spoils_open : (lent : List Lending) (change : Change) (output : Names) (state : State) → change.path ≡ output → replaced change (state output) ≡ lent_out (state output) → LendsOpen lent state → LendsOpen lent (after_changes (change ∷ []) state)
+spoils_open lent change output state at makes opens =
+    open_pointwise lent (after_start output state) (after_changes (change ∷ []) state) (one_changed (change ∷ []) change output state refl at makes) (open_more lent opens)
+  where
+    open_same : (test : Bool) (held : Held) → is_open_end held ≡ true → is_open_end (if test then lent_out held else held) ≡ true
+    open_same true held is = and_from _ _ (and_parts _ _ is).0 refl
+    open_same false held is = is
+
+    open_more : (lendings : List Lending) → LendsOpen lendings state → LendsOpen lendings (after_start output state)
+    open_more [] is = refl
+    open_more (first ∷ others) is =
+        let parts = and_parts _ _ is in
+        and_from _ _ (open_same (same_path output first.output) (state first.output) parts.0) (open_more others parts.1)
+
 pub lends_listed : (paths : List Names) (change : Change) (output : Names) (state : State) → change.path ≡ output → replaced change (state output) ≡ lent_out (state output) → is_listed paths output ≡ true → ListsAll paths state → ListsAll paths (after_changes (change ∷ []) state)
 lends_listed paths change output state at makes listed lists path =
     ⊎_elim (λ same. or_first (is_listed paths path) (is_absent (after_changes (change ∷ []) state path)) (subst (λ (p : Names). is_listed paths p ≡ true) (same_path-true output path same) listed)) (λ other. ap (λ (h : Held). is_listed paths path || is_absent h) (one_changed (change ∷ []) change output state refl at makes path ∙ if_false (same_path output path) (lent_out (state path)) (state path) other) ∙ lists path) (cases_Bool (same_path output path))

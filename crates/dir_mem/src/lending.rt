@@ -1,4 +1,4 @@
-ghost use Rattle.std.specs.Prelude.{◌≡◌, ◌^◌, ◌≤◌, ◌&&◌, [], ◌∷◌, ◌++◌, length, option_map, IfOk, IfSome, OnOk, OnErr};
+ghost use Rattle.std.specs.Prelude.{◌≡◌, ◌≢◌, ◌^◌, ◌≤◌, ◌&&◌, [], ◌∷◌, ◌++◌, length, option_map, IfOk, IfSome, OnOk, OnErr};
 ghost use Rattle.std.specs.List.{position};
 ghost use Rattle.peg_base.specs.Names.{same_path};
 ghost use Rattle.dir_disk.specs.Lent.{IsFree, IsNoOutput};
@@ -60,6 +60,24 @@ impl MemDir {
         self.list_one(alloc, output)?;
         self.add_loan(change, lending)?;
         Ok(loan)
+    }
+
+    /// Notes that the child which was to write this output could not be started: from now on a stop may leave anything
+    /// there. Nothing is lent, and it is no numbered call.
+    pub fn spoil(&mut self, alloc: Global, output: &Path) -> Result<(), NoMemory>
+        requires { output.now ≢ [] }
+        ensures step { OnOk result (AddsBy 0 (told_of self.old) (told_of self.new)) }
+        ensures state { OnOk result
+            (files (told_of self.new) ≡ after_start output.now (files (told_of self.old))) }
+        ensures lent { lent_of self.new ≡ lent_of self.old }
+        ensures err { OnErr result (told_of self.new ≡ told_of self.old) }
+        ensures fail { fail_of self.new ≡ fail_of self.old }
+        ensures faults { faults_of self.new ≡ faults_of self.old }
+    {
+        self.list_one(alloc, output)?;
+        let change = lend_of(alloc, &self.steps, output)?;
+        self.add_change(change)?;
+        Ok(())
     }
 
     /// Ends a loan: its child has left this at the output, or no file. What a stop may leave there is as before. It is no

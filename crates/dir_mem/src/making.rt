@@ -4,9 +4,10 @@ ghost use Rattle.dir_mem.specs.Images.{CanBegin, with_settled, image_of, settled
 ghost use Rattle.dir_mem.specs.Log.{AddsStep, state_of};
 ghost use Rattle.dir_disk.specs.Moments.{clock, files};
 ghost use Rattle.dir_mem.specs.Memory.{fail_of, faults_of, lent_of, told_of};
+ghost use Rattle.dir_mem.specs.Traces.{content_of};
 
 use crate::images::Image;
-use crate::log::Change;
+use crate::log::{Change, content_at};
 use crate::mem_dir::MemDir;
 use crate::traces::Trace;
 use dir_disk::Dir;
@@ -82,6 +83,13 @@ impl MemDir {
         ensures faults { faults_of self.new ≡ faults_of self.old }
     {
         self.fail = calls;
+    }
+
+    /// The bytes of the file that is at the path now, or `None` where no file is. It is no call.
+    pub fn content(&self, path: &Path) -> Option<&[u8]>
+        ensures { content_of result ≡ (files (told_of self.now) path.now).now }
+    {
+        content_at(&self.steps, path)
     }
 
     /// How many calls were made.

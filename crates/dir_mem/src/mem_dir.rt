@@ -87,15 +87,17 @@ impl MemDir {
         Ok(())
     }
 
-    /// Adds a change between two calls, while nothing is lent; the path is listed.
+    /// Adds a change between two calls; the path is listed.
     pub(crate) fn add_change(&mut self, change: Change) -> Result<(), NoMemory>
         requires sound { IsSoundState (after_changes (change ∷ []) (state_of self.old.steps.items)) }
         requires no_top { HasNoTop (after_changes (change ∷ []) (state_of self.old.steps.items)) }
         requires listed { ListsAll self.old.paths.items (after_changes (change ∷ []) (state_of self.old.steps.items)) }
-        requires lent { self.old.lent.items ≡ [] }
+        requires open_ends { LendsOpen self.old.lent.items
+            (after_changes (change ∷ []) (state_of self.old.steps.items)) }
         ensures ok { OnOk result (AddsStep 0 self.old.steps.items self.new.steps.items
             (after_changes (change ∷ []) (state_of self.old.steps.items))) }
-        ensures lent { self.new.lent.items ≡ [] }
+        ensures err { OnErr result (self.new.steps.items ≡ self.old.steps.items) }
+        ensures lent { self.new.lent ≡ self.old.lent }
         ensures faults { self.new.faults ≡ self.old.faults }
         ensures fail { self.new.fail ≡ self.old.fail }
     {

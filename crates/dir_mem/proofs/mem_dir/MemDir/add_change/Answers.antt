@@ -32,7 +32,7 @@ invariant_of-self-2 c =
       sound = subst IsSoundState (sym state) c.requires.sound;
       no_top = subst HasNoTop (sym state) c.requires.no_top;
       listed = subst (ListsAll c.args.self.now.paths.items) (sym state) c.requires.listed;
-      open_ends = subst (λ (ls : List Lending). LendsOpen ls (state_of c.push.new.self.items)) (sym c.requires.lent) refl;
+      open_ends = subst (LendsOpen c.args.self.now.lent.items) (sym state) c.requires.open_ends;
       past = past_push c.args.self.now.paths.items old c.push.new.self.items step items c.args.self.now.past (subst IsSoundState (sym state) c.requires.sound) (subst HasNoTop (sym state) c.requires.no_top) (subst (ListsAll c.args.self.now.paths.items) (sym state) c.requires.listed);
       room = omega (arith, c.len.ensures, c.in_ok-reserve.ensures.ok, c.in_ok-reserve.ensures.len, c.push.ensures.upper_bound, c.push.ensures.capacity);
     }
