@@ -1,9 +1,8 @@
-use Rattle.std.proofs.Common.{◌≡◌, ◌++◌, ◌∷◌, [], List, ◌∙◌, ap, sym, subst, refl, arith}
+use Rattle.std.proofs.Common.{◌≡◌, ◌++◌, ◌∷◌, [], List, ◌∙◌, ap, sym, subst, arith}
 use Rattle.std.specs.Prelude.{is_ok}
 use Rattle.dir_disk.specs.State.{no_files}
 use Rattle.dir_mem.specs.declared.log.Step.{Step}
 use Rattle.dir_mem.specs.declared.log.Step.TheVariants.{Between}
-use Rattle.dir_mem.specs.declared.mem_dir.Lending.{Lending}
 use Rattle.dir_mem.specs.Log.{state_of, after_changes, calls_of}
 use Rattle.dir_mem.specs.Sound.{IsSoundState, HasNoTop, ListsAll, LendsOpen}
 use Rattle.dir_mem.proofs.EffectLemmas.{if_true}

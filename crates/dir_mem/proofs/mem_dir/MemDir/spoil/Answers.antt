@@ -1,4 +1,4 @@
-use Rattle.std.proofs.Common.{◌≡◌, List, ◌∙◌, Vec, Global, ap, sym, subst}
+use Rattle.std.proofs.Common.{◌≡◌, List, Vec, Global, ap, subst}
 use Rattle.dir_disk.specs.Children.{after_start, lent_out}
 use Rattle.dir_disk.specs.Moments.{files}
 use Rattle.dir_mem.specs.declared.log.Step.{Step}

@@ -1,0 +1,4 @@
+pub mod Memory
+pub mod Voices
+pub mod Rosters
+pub mod Ends

@@ -1,0 +1,22 @@
+-- What a site in memory is.
+use Rattle.std.specs.Prelude.{List, []}
+use Rattle.dir_disk.specs.Children.{Given, Seen}
+use Rattle.dir_mem.specs.declared.mem_dir.MemDir.{MemDir}
+use Rattle.site_mem.specs.Voices.{Voiced}
+
+-- its directory, its children, what each start was given, and what was said
+pub record Memory : Type 0 where
+  pub dir : MemDir
+  pub seen : Seen
+  pub given : List Given
+  pub voice : Voiced
+
+-- nothing was started or said yet
+abbrev pub fresh : MemDir → Memory
+fresh dir =
+    record {
+      dir = dir;
+      seen = record { running = []; log = []; start_faults = 0 };
+      given = [];
+      voice = record { said = []; says = []; mute = []; faults = 0 };
+    }

@@ -1,0 +1,16 @@
+//! A site in memory, over a directory in memory: it tells everything, and its children end as they are told.
+#![tactic(auto)]
+
+mod console;
+mod dir;
+mod mem_site;
+mod roles;
+mod roster;
+mod site;
+mod voice;
+
+pub use mem_site::MemSite;
+pub use roles::Roles;
+
+#[cfg(test)]
+mod tests;
