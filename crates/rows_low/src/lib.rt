@@ -6,6 +6,8 @@ mod committer_rows;
 #[cfg(test)]
 mod dir_rows;
 #[cfg(test)]
+mod merge_rows;
+#[cfg(test)]
 mod spill_rows;
 #[cfg(test)]
 mod split_rows;
