@@ -111,6 +111,15 @@ taken_at {A} xs x place within is =
     split (z ∷ zs) zero inside at = ap (λ (w : A). w ∷ zs) (sym at)
     split (z ∷ zs) (suc n) inside at = ap (λ (ws : List A). z ∷ ws) (split zs n (omega (arith, inside)) at)
 
+-- what a file has that a child has left
+pub left_is : (output : Names) (left : List ℕ) (old new : State) → new ≡ after_loan output (Some left) old → (new output).now ≡ Some left
+left_is output left old new goes =
+    ap (λ (s : State). (s output).now) goes ∙ now_left (same_path output output) (old output) (same_path-refl output)
+  where
+    now_left : (test : Bool) (held : Held) → test ≡ true → (cond test (left_with (Some left) held) held).now ≡ Some left
+    now_left true held is = refl
+    now_left false held is = absurd (false≢true is)
+
 -- what a child leaves that has ended with this in its file
 pub leaves : (gives : List (List ℕ) → List ℕ → List ℕ) (child : Child) (status : ℤ) (left : List ℕ) (old new : Told) → AddsBy 0 old new → files new ≡ after_loan child.output (Some left) (files old) → (status ≡ pos 0 → left ≡ gives child.words child.given) → Leaves gives child status old new
 leaves gives child status left old new adds goes answers =
@@ -120,7 +129,7 @@ leaves gives child status left old new adds goes answers =
         may = λ path. ap (λ (s : State). (s path).may) goes ∙ may_kept (same_path child.output path) (files old path);
         others = λ path apart. ap (λ (s : State). (s path).now) goes ∙ now_kept (same_path child.output path) (files old path) apart;
       };
-      output = λ done. ap (λ (s : State). (s child.output).now) goes ∙ now_left (same_path child.output child.output) (files old child.output) (same_path-refl child.output) ∙ ap Some (answers done);
+      output = λ done. left_is child.output left (files old) (files new) goes ∙ ap Some (answers done);
     }
   where
     may_kept : (test : Bool) (held : Held) → (cond test (left_with (Some left) held) held).may ≡ held.may
@@ -130,7 +139,3 @@ leaves gives child status left old new adds goes answers =
     now_kept : (test : Bool) (held : Held) → test ≡ false → (cond test (left_with (Some left) held) held).now ≡ held.now
     now_kept true held apart = absurd (false≢true (sym apart))
     now_kept false held apart = refl
-
-    now_left : (test : Bool) (held : Held) → test ≡ true → (cond test (left_with (Some left) held) held).now ≡ Some left
-    now_left true held is = refl
-    now_left false held is = absurd (false≢true is)

@@ -3,13 +3,15 @@ use Rattle.std.specs.Prelude.{List, []}
 use Rattle.dir_disk.specs.Children.{Given, Seen}
 use Rattle.dir_mem.specs.declared.mem_dir.MemDir.{MemDir}
 use Rattle.site_mem.specs.Voices.{Voiced}
+use Rattle.site_mem.specs.Plans.{Planned, unplanned}
 
--- its directory, its children, what each start was given, and what was said
+-- its directory, its children, what each start was given, what was said, and what the children are told to do
 pub record Memory : Type 0 where
   pub dir : MemDir
   pub seen : Seen
   pub given : List Given
   pub voice : Voiced
+  pub plan : Planned
 
 -- nothing was started or said yet
 abbrev pub fresh : MemDir → Memory
@@ -19,4 +21,5 @@ fresh dir =
       seen = record { running = []; log = []; start_faults = 0 };
       given = [];
       voice = record { said = []; says = []; mute = []; faults = 0 };
+      plan = unplanned;
     }

@@ -10,6 +10,7 @@ impl<R: Roles + Drop> Dir for MemSite<R> {
     ghost use Rattle.dir_mem.specs.Memory.{faults_of, told_of};
     ghost use Rattle.dir_mem.specs.Laws.{clock_of_memory, now_is_allowed, files_are_short, top_is_none};
     ghost use Rattle.site_mem.specs.Voices.{Voiced};
+    ghost use Rattle.site_mem.specs.Plans.{Planned};
 
     ghost tells = { Unit {0} };
 
@@ -19,9 +20,9 @@ impl<R: Roles + Drop> Dir for MemSite<R> {
 
     ghost faults = { λ site. faults_of site.dir };
 
-    ghost Beside = { Seen × List Given × Voiced };
+    ghost Beside = { Seen × List Given × Voiced × Planned };
 
-    ghost beside = { λ site. (site.seen, site.given, site.voice) };
+    ghost beside = { λ site. (site.seen, site.given, site.voice, site.plan) };
 
     fn size(&mut self, alloc: Global, path: &Path) -> Result<Option<u64>, DirFault> {
         self.dir.size(alloc, path)

@@ -4,12 +4,15 @@
 mod console;
 mod dir;
 mod mem_site;
+mod order;
+mod plan;
 mod roles;
 mod roster;
 mod site;
 mod voice;
 
 pub use mem_site::MemSite;
+pub use order::Order;
 pub use roles::Roles;
 
 #[cfg(test)]

@@ -1,12 +1,16 @@
-ghost use Rattle.std.specs.Prelude.{◌≡◌, ◌≢◌, ◌⊎◌, ◌<◌, ◌≤◌, ◌+◌, ◌^◌, [], ◌∷◌, ◌++◌, IfOk, IsErrOf, length, take, drop, pos, if◌then◌else◌};
+ghost use Rattle.std.specs.Prelude.{◌≡◌, ◌≢◌, ◌<◌, ◌≤◌, ◌+◌, ◌^◌, [], ◌∷◌, ◌++◌, Some, true, false, IfOk, length, take, drop, if◌then◌else◌};
 ghost use Rattle.std.specs.Vec.{vec_len, vec_capacity};
 ghost use Rattle.dir_disk.specs.Children.{Begins, CanStart, Child, Ends, Given as Gives, Hands, Leaves, Starts, loan_of, loans_of};
 ghost use Rattle.dir_disk.specs.Lent.{IsFree, IsNoOutput};
 ghost use Rattle.dir_disk.specs.Moments.{clock, files};
 ghost use Rattle.dir_disk.specs.State.{bytes_of};
 ghost use Rattle.dir_mem.specs.Memory.{faults_of, lent_of, told_of};
-ghost use Rattle.site_mem.specs.Ends.{end_status, garbage, is_zero};
+ghost use Rattle.site_mem.specs.Reaps.{EndsNext};
+ghost use Rattle.site_mem.specs.Plans.{FailsIf, IsNext, is_held, status_of};
+ghost use Rattle.site_mem.specs.Ends.{garbage, is_zero};
 
+use crate::order::Order;
+use crate::plan::{Plan, is_zero};
 use crate::roles::Roles;
 use dir_disk::{Ended, LogEntry, StartFault};
 use dir_mem::{Loan, MemDir};
@@ -17,12 +21,6 @@ use std::marker::{Model, PhantomData};
 
 /// What a child leaves that hasn't done its work.
 const GARBAGE: &[u8] = b"garbage\n";
-
-/// The most bytes of a file: 2^50.
-const LONGEST: u64 = 1 << 50;
-
-/// The status of a child whose answer no file can have.
-const TOO_LONG: i32 = 66;
 
 /// What a start was given: the words, the bytes of the input, and how many calls of the directory were made before it.
 #[derive(Drop)]
@@ -163,6 +161,7 @@ impl<R: Roles + Drop> Roster<R> {
         ensures seen { let child : Child = record { attempt = attempt.now; words = given.words; input = input.now; output = output.now; given = given.input } in
             Begins child self.old.seen self.new.seen result }
         ensures given { Hands given self.old.given self.new.given result }
+        ensures fails { FailsIf false result }
         ensures lent { lent_of dir.new ≡ loans_of self.new.seen.running }
         ensures faults { faults_of dir.new ≡ faults_of dir.old }
     {
@@ -210,7 +209,7 @@ impl<R: Roles + Drop> Roster<R> {
         ensures running { self.new.seen.running ≡ self.old.seen.running }
         ensures lent { lent_of dir.new ≡ lent_of dir.old }
         ensures faults { faults_of dir.new ≡ faults_of dir.old }
-        ensures err { IsErrOf result StartFault.Failed ⊎ IsErrOf result StartFault.NoMemory }
+        ensures fails { FailsIf true result }
     {
         let Ok(noted) = attempt.copy(alloc) else {
             return Err(StartFault::NoMemory);
@@ -227,16 +226,16 @@ impl<R: Roles + Drop> Roster<R> {
         Err(StartFault::Failed)
     }
 
-    /// Ends the child at this place, with this status where it could do its work. Takes no memory.
-    pub(crate) fn reap(&mut self, dir: &mut MemDir, place: usize, status: i32) -> Ended
-        requires within { place < length self.old.seen.running }
+    /// Ends the child that the plan names next. Takes no memory.
+    pub(crate) fn reap(&mut self, dir: &mut MemDir, plan: &Plan) -> Ended
+        requires some { 1 ≤ length self.old.seen.running }
         requires lent { lent_of dir.old ≡ loans_of self.old.seen.running }
-        ensures ended { (child : Child) × Ends result.attempt result.status child self.old.seen self.new.seen
-            × Leaves R.gives child result.status (told_of dir.old) (told_of dir.new) }
+        ensures ended { EndsNext R.gives plan.now result.attempt result.status self.old.seen self.new.seen (told_of dir.old) (told_of dir.new) }
         ensures given { self.new.given ≡ self.old.given }
         ensures lent { lent_of dir.new ≡ loans_of self.new.seen.running }
         ensures faults { faults_of dir.new ≡ faults_of dir.old }
     {
+        let place = next_place(plan, &self.log, &self.running);
         let Running {
             attempt,
             noted,
@@ -245,11 +244,66 @@ impl<R: Roles + Drop> Roster<R> {
             loan,
             ..
         } = take_at(&mut self.running, place);
-        let status = status_of(status, &answer);
+        let status = plan.status_of(&self.log, &attempt, &answer);
         dir.end_loan(loan, Some(left_by(status, answer, remains)));
         note(&mut self.log, LogEntry::Ended(noted, status));
         Ended { attempt, status }
     }
+}
+
+/// The place of the child that ends next.
+fn next_place<R: Roles + Drop>(plan: &Plan, log: &[LogEntry], running: &[Running<R>]) -> usize
+    requires { 1 ≤ length running.now }
+    ensures within { result < length running.now }
+    ensures next { IsNext plan.now log.now running.now result }
+{
+    match plan.order() {
+        Order::OldestFirst => oldest(plan, log, running),
+        Order::NewestFirst => newest(plan, log, running),
+    }
+}
+
+#[tactic(auto, using(crate::proofs::Choosing::held_up, crate::proofs::Choosing::oldest_free, crate::proofs::Choosing::oldest_held))]
+/// The place of the oldest child that isn't held; of the oldest of all where each is.
+fn oldest<R: Roles + Drop>(plan: &Plan, log: &[LogEntry], running: &[Running<R>]) -> usize
+    requires some { 1 ≤ length running.now }
+    requires order { plan.now.order ≡ Order.OldestFirst }
+    ensures within { result < length running.now }
+    ensures next { IsNext plan.now log.now running.now result }
+{
+    let mut place = 0;
+    while place < running.len() {
+        if !waits(plan, log, &running[place]) {
+            return place;
+        }
+        place += 1;
+    }
+    0
+}
+
+#[tactic(auto, using(crate::proofs::Choosing::held_down, crate::proofs::Choosing::newest_free, crate::proofs::Choosing::newest_held))]
+/// The place of the newest child that isn't held; of the newest of all where each is.
+fn newest<R: Roles + Drop>(plan: &Plan, log: &[LogEntry], running: &[Running<R>]) -> usize
+    requires some { 1 ≤ length running.now }
+    requires order { plan.now.order ≡ Order.NewestFirst }
+    ensures within { result < length running.now }
+    ensures next { IsNext plan.now log.now running.now result }
+{
+    let mut place = running.len();
+    while place > 0 {
+        place -= 1;
+        if !waits(plan, log, &running[place]) {
+            return place;
+        }
+    }
+    running.len() - 1
+}
+
+/// Whether the child waits for an attempt that was not started.
+fn waits<R: Roles + Drop>(plan: &Plan, log: &[LogEntry], child: &Running<R>) -> bool
+    ensures { result ≡ is_held plan.now.holds log.now child.now.attempt }
+{
+    plan.holds_back(log, &child.attempt)
 }
 
 /// Adds a child to a list that has room for it.
@@ -281,27 +335,11 @@ fn take_at<R: Roles + Drop>(running: &mut Vec<Running<R>>, place: usize) -> Runn
     running.remove(place)
 }
 
-/// The status of a child that is to end with this one if it can do its work.
-fn status_of(status: i32, answer: &[u8]) -> i32
-    ensures { result ≡ end_status status answer.now }
-{
-    if is_zero(status) && answer.len() as u64 > LONGEST {
-        return TOO_LONG;
-    }
-    status
-}
-
 /// What a child leaves that ends with this status.
 fn left_by(status: i32, answer: Vec<u8>, remains: Vec<u8>) -> Vec<u8>
     ensures { result.items ≡ (if is_zero status then answer.items else remains.items) }
 {
     if is_zero(status) { answer } else { remains }
-}
-
-fn is_zero(status: i32) -> bool
-    ensures { result ≡ is_zero status }
-{
-    status == 0
 }
 
 /// What the start of a child takes besides its answer: its attempt for the site, for the child and for the log, its words,

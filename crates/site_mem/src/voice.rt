@@ -42,6 +42,8 @@ impl Model for Voice {
 }
 
 impl Voice {
+    ghost use Rattle.site_mem.specs.Voices.{FailsIf, is_muted};
+
     /// Nothing was said yet, and no say is to fail.
     pub(crate) fn new(alloc: Global) -> Voice
         ensures { result ≡ record { said = []; says = []; mute = []; faults = 0 } }
@@ -52,6 +54,13 @@ impl Voice {
             mute: Vec::new(alloc),
             faults: 0,
         }
+    }
+
+    /// From now on the says of these numbers fail, counted from 0, in place of those that were named before.
+    pub(crate) fn mute(&mut self, says: Vec<u64>)
+        ensures { self.new ≡ record self.old { mute = says.items } }
+    {
+        self.mute = says;
     }
 
     /// The bytes that were said.
@@ -67,6 +76,7 @@ impl Voice {
         ensures err { OnErr result (self.new.said ≡ self.old.said) }
         ensures part { AddsPart (Some self.old.said) (Some self.new.said) bytes.now }
         ensures says { Some self.new.says ≡ with_say bytes.now moment result (Some self.old.says) }
+        ensures fails { FailsIf (is_muted self.old) result }
         ensures mute { self.new.mute ≡ self.old.mute }
         ensures cause { HasCause SayFault.Failed self.old.faults self.new.faults result }
     {
