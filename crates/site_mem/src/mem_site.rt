@@ -7,7 +7,7 @@ use crate::plan::Plan;
 use crate::roles::Roles;
 use crate::roster::Roster;
 use crate::voice::Voice;
-use dir_disk::LogEntry;
+use dir_disk::{Dir, LogEntry};
 use dir_mem::MemDir;
 use peg_base::Attempt;
 use std::alloc::Global;
@@ -42,6 +42,7 @@ impl<R: Roles + Drop> MemSite<R> {
     /// A site over this directory, whose children run the programs of these roles. Nothing was started or said yet.
     pub fn new(alloc: Global, dir: MemDir, roles: R) -> MemSite<R>
         requires { lent_of dir ≡ [] }
+        ensures tells { ⟦<MemSite<R> as Dir>⟧.tells }
         ensures fresh { result ≡ fresh dir }
     {
         MemSite {
