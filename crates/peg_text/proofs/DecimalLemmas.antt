@@ -1,9 +1,10 @@
 -- Reading a decimal digit by digit, and reading back what was written.
-use Rattle.std.proofs.Common.{◌≡◌, ℕ, ◌+◌, ◌-◌, ◌*◌, ◌^◌, ◌<◌, ◌≤◌, true, false, ◌&&◌, List, [], ◌∷◌, Some, None, length, get_or, drop, decimal, leb, refl, sym, ap, ◌∙◌, arith}
+use Rattle.std.proofs.Common.{◌≡◌, ℕ, suc, ◌+◌, ◌-◌, ◌*◌, ◌^◌, ◌<◌, ◌≤◌, true, false, ◌&&◌, List, [], ◌∷◌, Some, None, length, get_or, drop, decimal, leb, refl, sym, ap, ◌∙◌, arith}
 use Rattle.std.specs.List.{list_all}
 use Rattle.std.specs.Char.{is_ascii_digit, digit_value}
 use Rattle.std.specs.Str.Parse.{digits_value, digits_value_after, AllDigits}
 use Rattle.std.proofs.lemmas.Bool.{and_parts, and_left, and_right, and_from, cond-true, cond-false, lt-ltb, le-ltb, le-leb, lt-leb, leb-true}
+use Rattle.std.proofs.Math.Nat.{pow-suc, pow-le-pow_right}
 use Rattle.std.proofs.lemmas.List.{at_drop_more, drop_all}
 use Rattle.std.proofs.lemmas.Str.{digit_value_digit}
 use Rattle.std.proofs.lemmas.Str.Parse.{digit_from_value}
@@ -25,6 +26,9 @@ digit_value-is b is =
     let low : 48 ≤ b = leb-true 48 b range.0 in
     let high : b ≤ 57 = leb-true b 57 range.1 in
     omega (arith, digit_value_digit b (low, high))
+
+pub digit_small : (b : ℕ) → is_ascii_digit b ≡ true → b - 48 ≤ 9
+digit_small b is = omega (arith, leb-true b 57 (and_parts (leb 48 b) (leb b 57) is).1)
 
 pub le_after : (n : ℕ) (cs : List ℕ) → n ≤ digits_value_after 10 n cs
 le_after n [] = omega arith
@@ -78,6 +82,19 @@ module _ (text : List ℕ) (number index b : ℕ) where
     value = ap (λ v. digits_value_after 10 (number * 10 + v) (drop (index + 1) text)) (sym (digit_value-is b digit)) ∙ value_next on inside is;
     digits = ap (λ t. t && list_all is_ascii_digit (drop (index + 1) text)) (sym digit) ∙ digits_next on inside is;
   }
+
+-- a number of as many digits has a bound, and one of fewer than 19 takes a further digit below 2^64
+pub below_next : (number index digit : ℕ) → number < 10 ^ index → digit ≤ 9 → number * 10 + digit < 10 ^ (index + 1)
+below_next number index digit below small =
+    let next : index + 1 ≡ suc index = omega arith in
+    rw next (omega (arith, pow-suc 10 index))
+
+pub takes_digit : (number index : ℕ) → number < 10 ^ index → index < 19 → number * 10 + 9 < 2 ^ 64
+takes_digit number index below few =
+    let next = below_next number index 9 below (omega arith) in
+    let some : 0 < 10 = omega arith in
+    let more : index + 1 ≤ 19 = omega arith in
+    omega (arith, next, pow-le-pow_right some more)
 
 pub some_at_end : (text : List ℕ) (number index : ℕ) → ReadsOn text number index → length text ≤ index → 0 < length text → length text ≤ 20 → number < 2 ^ 64 → decimal_of text ≡ Some number
 some_at_end text number index on past some few small =

@@ -1,16 +1,12 @@
-use Rattle.std.proofs.Common.{rules, arith, refl, sym, ◌∙◌, length}
-use Rattle.std.proofs.lemmas.Bool.{eqb-false}
-use Rattle.peg_text.proofs.DecimalLemmas.{none_past, some_at_end}
+use Rattle.std.proofs.Common.{arith, sym, ◌∙◌, slice_index_or}
+use Rattle.peg_text.proofs.DecimalLemmas.{digit_small, takes_digit}
 use Rattle.peg_text.proofs.decimals.read_decimal.Goals as goal
 
-pub returns-in_err-checked_mul : goal.returns-in_err-checked_mul
-returns-in_err-checked_mul c =
-    rw c.from_residual.ensures (sym (none_past c.args.text.now c.loop-digit.number c.loop-digit.digit-index _ c.loop-digit.invariant.0 (omega arith) refl (search rules) (omega (arith, c.in_err-checked_mul.ensures))))
+pub overflow_mul-number : goal.overflow_mul-number
+overflow_mul-number c =
+    omega (arith, takes_digit c.loop-digit.number c.loop-digit.digit-index c.loop-digit.invariant.1 (omega arith))
 
-pub returns-in_err-number : goal.returns-in_err-number
-returns-in_err-number c =
-    rw c.from_residual-in_err-number.ensures (sym (none_past c.args.text.now c.loop-digit.number c.loop-digit.digit-index _ c.loop-digit.invariant.0 (omega arith) refl (search rules) (omega (arith, c.in_ok-checked_mul.ensures, c.in_err-number.ensures))))
-
-pub returns : goal.returns
-returns c =
-    sym (some_at_end c.args.text.now c.loop-digit.number c.loop-digit.digit-index c.loop-digit.invariant.0 (omega arith) (omega (arith, eqb-false (length c.args.text.now) 0 (sym c.is_empty.ensures ∙ c.if-is_empty.false))) (omega arith) c.loop-digit.invariant.1)
+pub overflow_add-number : goal.overflow_add-number
+overflow_add-number c =
+    let small = digit_small (slice_index_or c.split_at.result.0.now c.loop-digit.digit-index 0) (sym c.is_ascii_digit.ensures.value ∙ c.if-not-is_ascii_digit.false) in
+    omega (arith, small, c.from.ensures, takes_digit c.loop-digit.number c.loop-digit.digit-index c.loop-digit.invariant.1 (omega arith))
