@@ -1,2 +1,3 @@
 pub mod Sorting
 pub mod PairLemmas
+pub mod PrefixLemmas

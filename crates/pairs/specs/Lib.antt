@@ -1,3 +1,4 @@
 pub mod Sorting
 pub mod Pairs
+pub mod Prefixes
 pub mod Laws

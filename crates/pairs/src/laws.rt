@@ -1,4 +1,5 @@
 //! Laws on sorted pairs and on their texts. Each is the contract of a function that does nothing.
+ghost use Rattle.pairs.specs.Prefixes.{LesserPrefixComesFirst};
 ghost use Rattle.pairs.specs.Laws.{SortedIsInOrder, SortedIsPermutation, PermutationsSortAlike, InOrderIsSorted, LeastComesFirst, PairsReadBack, TextsFollow, OrderByExample, TextByExample};
 
 /// The sorted list of pairs has each of them as often as the list, in order.
@@ -30,6 +31,11 @@ pub fn pairs_read_back()
 /// The texts of two lists of pairs make the text of both.
 pub fn texts_follow()
     ensures { TextsFollow }
+{}
+
+/// Of two texts with different prefixes, the one with the lesser prefix comes first.
+pub fn lesser_prefix_comes_first()
+    ensures { LesserPrefixComesFirst }
 {}
 
 /// Small lists of pairs, their order and their text.
