@@ -9,3 +9,4 @@ pub mod Answers
 pub mod Blame
 pub mod Placing
 pub mod ReadBack
+pub mod EdgeTexts

@@ -1,13 +1,11 @@
-ghost use Rattle.std.specs.Prelude.{◌≡◌, ◌++◌, ◌∷◌, [], OnOk, OnErr};
-ghost use Rattle.peg_text.specs.Lists.{GoesOnFrom};
-ghost use Rattle.gimv_base.specs.BaseRules.{edge_entries, entries_rule};
-ghost use Rattle.gimv_base.specs.Lines.{entry_text_of, with_lf};
+ghost use Rattle.std.specs.Prelude.{◌≡◌, ◌+◌, ◌≤◌, ◌++◌, length, OnOk, OnErr};
+ghost use Rattle.std.specs.Vec.{vec_capacity, vec_len};
+ghost use Rattle.gimv_base.specs.BaseRules.{entries_rule};
+ghost use Rattle.gimv_base.specs.EdgeTexts.{unit_entries, unit_entry};
 ghost use Rattle.gimv_base.specs.Standings.{fresh};
 
-use crate::records::read_edge;
+use crate::records::edge_texts;
 use crate::role::{Role, RoleFault};
-use graph::Edge;
-use itoa::Buffer;
 use peg_text::NoMemory;
 use std::alloc::Global;
 
@@ -31,10 +29,10 @@ impl Role for EntriesRole {
 
     fn line(&mut self, _: Global, text: &[u8], out: &mut Vec<u8>) -> Result<(), RoleFault> {
         let both = self.both;
-        let Some(edge) = read_edge(text) else {
+        let Some((source, target)) = edge_texts(text) else {
             return Err(RoleFault::Bad);
         };
-        write_entries(out, &edge, both)?;
+        append_entries(out, source, target, both)?;
         Ok(())
     }
 
@@ -43,47 +41,47 @@ impl Role for EntriesRole {
     }
 }
 
-/// Appends the entries of an edge. Without memory `out` is as before.
-fn write_entries(out: &mut Vec<u8>, edge: &Edge, both: bool) -> Result<(), NoMemory>
-    ensures ok { OnOk result (out.new.items ≡ out.old.items ++ edge_entries both edge.now) }
+/// Appends the entries of an edge, from the texts of its source and its target. Without memory `out` is as before.
+fn append_entries(
+    out: &mut Vec<u8>,
+    source: &[u8],
+    target: &[u8],
+    both: bool,
+) -> Result<(), NoMemory>
+    requires { (length source.now ≤ 20) × (length target.now ≤ 20) }
+    ensures ok { OnOk result (out.new.items ≡ out.old.items ++ unit_entries both source.now target.now) }
     ensures err { OnErr result (out.new.items ≡ out.old.items) }
 {
-    let before = out.len();
-    match append_entries(out, edge, both) {
-        Ok(()) => Ok(()),
-        Err(fault) => {
-            out.truncate(before);
-            Err(fault)
-        }
+    // The room for both is made at once: a test at each part costs more than writing it.
+    out.reserve(2 * (source.len() + target.len() + 6))?;
+    push_unit_entry(out, target, source);
+    if both {
+        push_unit_entry(out, source, target);
     }
-}
-
-/// Appends the entries of an edge. Without memory some of it may have been appended.
-fn append_entries(out: &mut Vec<u8>, edge: &Edge, both: bool) -> Result<(), NoMemory>
-    ensures ok { OnOk result (out.new.items ≡ out.old.items ++ edge_entries both edge.now) }
-    ensures kept { GoesOnFrom out.old.items out.new.items }
-{
-    // Each number is written once, though it may stand in both entries.
-    let mut source = Buffer::new();
-    let mut target = Buffer::new();
-    let source = source.format(edge.source).as_bytes();
-    let target = target.format(edge.target).as_bytes();
-    append_unit_entry(out, target, source)?;
-    if !both {
-        return Ok(());
-    }
-    append_unit_entry(out, source, target)
-}
-
-/// Appends an entry of weight 1, by its column, from the texts of its column and its row. Without memory some of it may have
-/// been appended.
-fn append_unit_entry(out: &mut Vec<u8>, column: &[u8], row: &[u8]) -> Result<(), NoMemory>
-    ensures ok { OnOk result (out.new.items ≡ out.old.items ++ with_lf (entry_text_of column.now row.now (49 ∷ []))) }
-    ensures kept { GoesOnFrom out.old.items out.new.items }
-{
-    out.extend_from_slice(column)?;
-    out.extend_from_slice(b"\tW ")?;
-    out.extend_from_slice(row)?;
-    out.extend_from_slice(b" 1\n")?;
     Ok(())
+}
+
+/// Appends an entry of weight 1, by its column, from the texts of its column and its row. There is room for it.
+fn push_unit_entry(out: &mut Vec<u8>, column: &[u8], row: &[u8])
+    requires room { vec_len out.old + (length column.now + length row.now + 6) ≤ vec_capacity out.old }
+    ensures items { out.new.items ≡ out.old.items ++ unit_entry column.now row.now }
+    ensures len { vec_len out.new ≡ vec_len out.old + (length column.now + length row.now + 6) }
+    ensures capacity { vec_capacity out.new ≡ vec_capacity out.old }
+{
+    push_text(out, column);
+    push_text(out, b"\tW ");
+    push_text(out, row);
+    push_text(out, b" 1\n");
+}
+
+/// Appends a text. There is room for it.
+fn push_text(out: &mut Vec<u8>, text: &[u8])
+    requires room { vec_len out.old + length text.now ≤ vec_capacity out.old }
+    ensures items { out.new.items ≡ out.old.items ++ text.now }
+    ensures len { vec_len out.new ≡ vec_len out.old + length text.now }
+    ensures capacity { vec_capacity out.new ≡ vec_capacity out.old }
+{
+    for byte in text {
+        out.push_reserved(*byte);
+    }
 }

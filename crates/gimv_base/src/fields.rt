@@ -1,4 +1,5 @@
-ghost use Rattle.std.specs.Prelude.{◌≡◌, ◌<◌, ◌≤◌, ◌^◌, length, position, option_map, IfSome};
+ghost use Rattle.std.specs.Prelude.{◌≡◌, ◌<◌, ◌≤◌, ◌^◌, decimal, length, position, option_map, IfSome};
+ghost use Rattle.peg_text.specs.Decimal.{decimal_of};
 ghost use Rattle.gimv_base.specs.Fields.{around_blank, is_blank, number_below, tagged};
 
 use peg_text::read_decimal;
@@ -12,6 +13,19 @@ pub fn read_below(text: &[u8], bound: u64) -> Option<u32>
         Some(number) if number < bound => Some(number as u32),
         _ => None,
     }
+}
+
+/// A decimal text without the zeros that lead it, which is how its number is written.
+pub fn without_leading_zeros(text: &[u8]) -> &[u8]
+    ensures is { IfSome (decimal_of text.now) (λ number. result.now ≡ decimal number) }
+    ensures short { IfSome (decimal_of text.now) (λ _. length result.now ≤ 20) }
+{
+    let mut zeros = 0;
+    // The last digit stays, since the number 0 has one too.
+    while zeros + 1 < text.len() && text[zeros] == b'0' {
+        zeros += 1;
+    }
+    &text[zeros..]
 }
 
 /// What follows a tag and a blank. `None` where a text doesn't begin so.

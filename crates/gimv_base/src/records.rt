@@ -1,8 +1,9 @@
-ghost use Rattle.std.specs.Prelude.{◌≡◌, ◌≤◌, ◌^◌, IfOk, option_map, option_and_then};
+ghost use Rattle.std.specs.Prelude.{◌≡◌, ◌≤◌, ◌^◌, length, IfOk, IfSome, option_map, option_and_then};
+ghost use Rattle.gimv_base.specs.EdgeTexts.{edge_texts};
 ghost use Rattle.gimv_base.specs.Fields.{number_below, tagged};
 ghost use Rattle.gimv_base.specs.Records.{edge_record_of, entry_record_of, message_record_of, node_record_of, number_record_of, place_record_of, value_record_of, value_text_of};
 
-use crate::fields::{after_tag, around_blank, read_below};
+use crate::fields::{after_tag, around_blank, read_below, without_leading_zeros};
 use gimv_core::Gimv;
 use graph::Edge;
 use peg_text::{NoMemory, read_decimal, split_pair};
@@ -22,6 +23,17 @@ pub fn read_edge(line: &[u8]) -> Option<Edge>
     let source = read_below(key, IDS)?;
     let target = read_below(value, IDS)?;
     Some(Edge { source, target })
+}
+
+/// How an edge's source and target are written. `None` where the record is of another kind.
+pub fn edge_texts(line: &[u8]) -> Option<(&[u8], &[u8])>
+    ensures is { option_map (λ texts. (texts.0.now, texts.1.now)) result ≡ option_map edge_texts (edge_record_of line.now) }
+    ensures short { IfSome result (λ texts. (length texts.0.now ≤ 20) × (length texts.1.now ≤ 20)) }
+{
+    let (key, value) = split_pair(line);
+    read_below(key, IDS)?;
+    read_below(value, IDS)?;
+    Some((without_leading_zeros(key), without_leading_zeros(value)))
 }
 
 /// The id that a text writes after the tag P, where it is below `bound`, which is at most 2^32.
