@@ -1,4 +1,4 @@
-ghost use Rattle.std.specs.Prelude.{◌≡◌, []};
+ghost use Rattle.std.specs.Prelude.{◌≡◌, [], length};
 ghost use Rattle.dir_disk.specs.Children.{loans_of};
 ghost use Rattle.dir_mem.specs.Memory.{lent_of};
 
@@ -98,6 +98,13 @@ impl<R: Roles + Drop> MemSite<R> {
         ensures { result.now ≡ self.now.voice.said }
     {
         self.voice.said()
+    }
+
+    /// How many children run.
+    pub fn running(&self) -> usize
+        ensures { result ≡ length self.now.seen.running }
+    {
+        self.roster.running()
     }
 
     /// What happened to the attempts of tasks, in order.

@@ -134,6 +134,13 @@ impl<R: Roles + Drop> Roster<R> {
         }
     }
 
+    /// How many children run.
+    pub(crate) fn running(&self) -> usize
+        ensures { result ≡ length self.now.seen.running }
+    {
+        self.running.len()
+    }
+
     /// What happened to the attempts, in order.
     pub(crate) fn log(&self) -> &[LogEntry]
         ensures { result.now ≡ self.now.seen.log }
