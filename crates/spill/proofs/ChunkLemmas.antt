@@ -1,21 +1,19 @@
--- Pairs dealt out to their parts, and sorted there.
-use Rattle.std.proofs.Common.{◌≡◌, ◌∙◌, ap, sym, refl, ℕ, ◌+◌, ◌<◌, ◌==◌, Bool, true, false, cond, ⊎_elim, List, [], ◌∷◌, ◌++◌, length, get_or, set, map, replicate, take, arith}
-use Rattle.std.specs.Borrow.{Bor}
-use Rattle.std.specs.Cmp.Lexicographic.{slice_cmp}
-use Rattle.std.specs.declared.cmp.Ordering.{Ordering}
-use Rattle.std.specs.List.Sorted.{IsPermutation, IsSorted}
-use Rattle.std.specs.Ordering.{nat_cmp, ordering_then, is_lt}
+-- Pairs dealt out to their parts.
+use Rattle.std.proofs.Common.{◌≡◌, ◌≢◌, ◌∙◌, ap, sym, refl, subst, ℕ, ◌+◌, ◌-◌, ◌<◌, ◌==◌, Bool, true, false, cond, ⊎_elim, List, [], ◌∷◌, ◌++◌, Some, None, length, get_or, set, map, replicate, take, drop, arith}
+use Rattle.std.specs.List.{position_or_len}
 use Rattle.std.proofs.lemmas.Bool.{cases_eq, eq-eqb, ne_eqb}
-use Rattle.std.proofs.lemmas.List.{same_lists, length-set, get_or-map, get_or-set_same, get_or-set_other, append-nil, length-map, map_more, length-replicate, get_or-replicate}
-use Rattle.std.proofs.lemmas.List.Elements.{filter-append}
+use Rattle.std.proofs.lemmas.List.{append_assoc, drop_at, length-append, same_lists, length-set, get_or-set_same, get_or-set_other, append-nil, length-replicate, get_or-replicate}
+use Rattle.std.proofs.lemmas.List.Elements.{All-append, All-cons, All-drop, All-take, filter-append}
 use Rattle.std.proofs.lemmas.List.FromFn.{get_or-map-range_with_len, length-map-range_with_len}
-use Rattle.std.proofs.lemmas.List.Sorted.{IsPermutation-map}
+use Rattle.memchr.specs.Find.{IsFirstByte, is_byte}
 use Rattle.partition.specs.Hash.{part_among}
-use Rattle.peg_text.specs.Pairs.{key_of, value_of}
-use Rattle.pairs.specs.Pairs.{Pair, pair_of, pair_cmp, IsInOrder, sorted_pairs}
-use Rattle.pairs.proofs.PairLemmas.{in_order_is_sorted}
+use Rattle.peg_text.specs.Pairs.{is_tab, key_of, value_of, pair_text}
+use Rattle.peg_text.specs.Records.{HasNoLf, records_of}
+use Rattle.peg_text.proofs.CursorLemmas.{IsSearched-none, all_searched, record_found, rest_unbroken, unended-some}
+use Rattle.peg_text.proofs.RecordLemmas.{records_of-line, records_of-unbroken}
+use Rattle.pairs.specs.Pairs.{Pair, pair_of, pairs_in, pairs_text}
 use Rattle.spill.specs.Runs.{of_part}
-use Rattle.spill.specs.Chunks.{texts, parts_of}
+use Rattle.spill.specs.Chunks.{parts_of}
 
 -- ---- dealing
 
@@ -72,32 +70,66 @@ none_dealt reducers =
         get_or-replicate {A = List Pair} reducers k [] d below ∙ sym (get_or-map-range_with_len (λ (r : ℕ). of_part reducers r []) 0 reducers k k d below (omega arith))
 
 -- a line more: its pair goes to the end of its part
-pub dealt_line : (reducers i : ℕ) (lists : List (List Pair)) (lines : List (List ℕ)) (line key value : List ℕ) (before after : List Pair) → lists ≡ parts_of reducers (map pair_of (take i lines)) → i < length lines → line ≡ get_or lines i [] → key ≡ key_of line → value ≡ value_of line → part_among key reducers < reducers → before ≡ get_or lists (part_among key reducers) [] → after ≡ before ++ (key, value) ∷ [] → set lists (part_among key reducers) after ≡ parts_of reducers (map pair_of (take (i + 1) lines))
-dealt_line reducers i lists lines line key value before after so_far inside is_line is_key is_value below is_before is_after =
+pub dealt_line : (reducers : ℕ) (lists : List (List Pair)) (done : List Pair) (line key : List ℕ) (before after : List Pair) → lists ≡ parts_of reducers done → key ≡ key_of line → part_among key reducers < reducers → before ≡ get_or lists (part_among key reducers) [] → after ≡ before ++ pair_of line ∷ [] → set lists (part_among key reducers) after ≡ parts_of reducers (done ++ pair_of line ∷ [])
+dealt_line reducers lists done line key before after so_far is_key below is_before is_after =
     let part : ℕ = part_among key reducers in
-    let pairs : List Pair = map pair_of (take i lines) in
-    let p : Pair = (key, value) in
-    let is_pair : p ≡ pair_of (get_or lines i []) = ap (λ (k : List ℕ). let q : Pair = (k, value) in q) (is_key ∙ ap key_of is_line) ∙ ap (λ (v : List ℕ). let q : Pair = (key_of (get_or lines i []), v) in q) (is_value ∙ ap value_of is_line) in
-    let is_part : before ≡ of_part reducers part pairs = is_before ∙ ap (λ (ls : List (List Pair)). get_or ls part []) so_far ∙ part_at reducers part pairs below in
-    ap (λ (ls : List (List Pair)). set ls part after) so_far ∙ ap (λ (ps : List Pair). set (parts_of reducers pairs) part ps) (is_after ∙ ap (λ (ps : List Pair). ps ++ p ∷ []) is_part) ∙ dealt_more reducers pairs p below ∙ ap (λ (q : Pair). parts_of reducers (pairs ++ q ∷ [])) is_pair ∙ ap (parts_of reducers) (sym (map_more pair_of lines i [] inside))
+    let p : Pair = pair_of line in
+    let same : part ≡ part_among p.0 reducers = ap (λ (k : List ℕ). part_among k reducers) is_key in
+    let is_part : before ≡ of_part reducers part done = is_before ∙ ap (λ (ls : List (List Pair)). get_or ls part []) so_far ∙ part_at reducers part done below in
+    ap (λ (ls : List (List Pair)). set ls part after) so_far ∙ ap (λ (ps : List Pair). set (parts_of reducers done) part ps) (is_after ∙ ap (λ (ps : List Pair). ps ++ p ∷ []) is_part) ∙ ap (λ (n : ℕ). set (parts_of reducers done) n (of_part reducers n done ++ p ∷ [])) same ∙ dealt_more reducers done p (subst (λ (n : ℕ). n < reducers) same below)
 
--- ---- sorting
+-- the pairs of a text are dealt but for those of what is left
+abbrev pub IsDealt : ℕ → List (List Pair) → List ℕ → List ℕ → Type 0
+IsDealt reducers lists left text =
+    (done : List Pair) × (lists ≡ parts_of reducers done) × (done ++ pairs_in left ≡ pairs_in text)
 
-abbrev slices_cmp : Bor (List ℕ) × Bor (List ℕ) → Bor (List ℕ) × Bor (List ℕ) → Ordering
-slices_cmp x y = ordering_then (slice_cmp nat_cmp x.0.now y.0.now) (slice_cmp nat_cmp x.1.now y.1.now)
+pub dealt_more_of : (reducers : ℕ) (lists : List (List Pair)) (left text line rest key : List ℕ) (before after : List Pair) → IsDealt reducers lists left text → records_of left ≡ line ∷ records_of rest → key ≡ key_of line → part_among key reducers < reducers → before ≡ get_or lists (part_among key reducers) [] → after ≡ before ++ pair_of line ∷ [] → IsDealt reducers (set lists (part_among key reducers) after) rest text
+dealt_more_of reducers lists left text line rest key before after dealt first is_key below is_before is_after = (
+  dealt.0 ++ pair_of line ∷ [],
+  dealt_line reducers lists dealt.0 line key before after dealt.1 is_key below is_before is_after,
+  append_assoc dealt.0 (pair_of line ∷ []) (pairs_in rest) ∙ ap (λ (lines : List (List ℕ)). dealt.0 ++ map pair_of lines) (sym first) ∙ dealt.2,
+)
 
-abbrev text_of : Bor (List ℕ) × Bor (List ℕ) → Pair
-text_of s = (s.0.now, s.1.now)
+pub dealt_start : (reducers : ℕ) (lists : List (List Pair)) (text : List ℕ) → lists ≡ replicate reducers [] → IsDealt reducers lists text text
+dealt_start reducers lists text none = ([], none ∙ none_dealt reducers, refl)
 
-slices_in_order : (slices : List (Bor (List ℕ) × Bor (List ℕ))) → IsSorted slices_cmp slices → IsInOrder (texts slices)
-slices_in_order [] ordered k d low below = absurd (omega arith)
-slices_in_order (s ∷ slices) ordered k d low below =
-    let all : List (Bor (List ℕ) × Bor (List ℕ)) = s ∷ slices in
-    let long : length (texts all) ≡ length all = length-map all text_of in
-    let later : get_or (texts all) (k + 1) d ≡ text_of (get_or all (k + 1) s) = get_or-map text_of all (k + 1) s d (omega arith) in
-    let earlier : get_or (texts all) k d ≡ text_of (get_or all k s) = get_or-map text_of all k s d (omega arith) in
-    ap (λ (p : Pair). is_lt (pair_cmp p (get_or (texts all) k d))) later ∙ ap (λ (p : Pair). is_lt (pair_cmp (text_of (get_or all (k + 1) s)) p)) earlier ∙ ordered k s low (omega arith)
+pub dealt_end : (reducers : ℕ) (lists : List (List Pair)) (left text : List ℕ) → IsDealt reducers lists left text → records_of left ≡ [] → lists ≡ parts_of reducers (pairs_in text)
+dealt_end reducers lists left text dealt none =
+    dealt.1 ∙ ap (parts_of reducers) (sym (append-nil dealt.0) ∙ ap (λ (lines : List (List ℕ)). dealt.0 ++ map pair_of lines) (sym none) ∙ dealt.2)
 
-pub sorted_texts : (slices found : List (Bor (List ℕ) × Bor (List ℕ))) → IsPermutation slices found → IsSorted slices_cmp found → texts found ≡ sorted_pairs (texts slices)
-sorted_texts slices found same ordered =
-    in_order_is_sorted (texts slices) (texts found) (IsPermutation-map text_of slices found same) (slices_in_order found ordered)
+-- ---- the first record
+
+pub first_found : (text : List ℕ) (k : ℕ) → IsFirstByte (is_byte 10) text (Some k) → records_of text ≡ take k text ∷ records_of (drop (k + 1) text)
+first_found text k first =
+    let count : k ≡ 0 + k - 0 = omega arith in
+    let past : 0 + k + 1 ≡ k + 1 = omega arith in
+    let begins = record_found text text 0 0 k text (take k text) (IsSearched-none text 0 (omega arith)) refl refl (ap (λ (n : ℕ). take n text) count) first in
+    ap records_of (begins.whole ∙ ap (λ (n : ℕ). take k text ++ 10 ∷ drop n text) past) ∙ records_of-line (take k text) (drop (k + 1) text) begins.unbroken
+
+pub found_unbroken : (text : List ℕ) (k : ℕ) → IsFirstByte (is_byte 10) text (Some k) → HasNoLf (take k text)
+found_unbroken text k first =
+    let count : k ≡ 0 + k - 0 = omega arith in
+    (record_found text text 0 0 k text (take k text) (IsSearched-none text 0 (omega arith)) refl refl (ap (λ (n : ℕ). take n text) count) first).unbroken
+
+pub all_unbroken : (text : List ℕ) → IsFirstByte (is_byte 10) text None → HasNoLf text
+all_unbroken text none =
+    rest_unbroken text 0 (all_searched text text 0 0 (IsSearched-none text 0 (omega arith)) refl none)
+
+pub none_found : (text : List ℕ) → IsFirstByte (is_byte 10) text None → 0 < length text → records_of text ≡ text ∷ []
+none_found text none some =
+    records_of-unbroken text (rest_unbroken text 0 (all_searched text text 0 0 (IsSearched-none text 0 (omega arith)) refl none)) ∙ unended-some text some
+
+-- ---- lines of pairs
+
+-- the first line of a text of pairs has a TAB, and what stands after it is a text of pairs
+pub whole_line : (left line rest : List ℕ) → pairs_text (pairs_in left) ≡ left → records_of left ≡ line ∷ records_of rest → HasNoLf line → rest ≡ drop (length line + 1) left → (pair_text (key_of line) (value_of line) ≡ line) × (pairs_text (pairs_in rest) ≡ rest)
+whole_line left line rest lines first unbroken is_rest =
+    let n : ℕ = position_or_len is_tab line in
+    let text : List ℕ = pair_text (key_of line) (value_of line) in
+    let more : List ℕ = pairs_text (pairs_in rest) in
+    let plain : HasNoLf text = All-append (λ b. b ≢ 10) (key_of line) (9 ∷ value_of line) (All-take (λ b. b ≢ 10) n line unbroken) (All-cons (λ b. b ≢ 10) 9 (value_of line) (λ is. absurd (omega (arith, is))) (All-drop (λ b. b ≢ 10) (n + 1) line unbroken)) in
+    let goes_on : left ≡ text ++ 10 ∷ more = sym lines ∙ ap (λ (rs : List (List ℕ)). pairs_text (map pair_of rs)) first ∙ append_assoc text (10 ∷ []) more in
+    let both : text ∷ records_of more ≡ line ∷ records_of rest = sym (records_of-line text more plain) ∙ ap records_of (sym goes_on) ∙ first in
+    let same : text ≡ line = cc in
+    let past : rest ≡ more = is_rest ∙ ap (λ (l : List ℕ). drop (length l + 1) left) (sym same) ∙ ap (drop (length text + 1)) (goes_on ∙ sym (append_assoc text (10 ∷ []) more)) ∙ drop_at (text ++ 10 ∷ []) more (length text + 1) (length-append text (10 ∷ [])) in
+    (same, sym past)

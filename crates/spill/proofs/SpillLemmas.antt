@@ -13,8 +13,9 @@ use Rattle.dir_disk.specs.Lent.{Loan, IsFree}
 use Rattle.dir_disk.proofs.Through.{weaker}
 use Rattle.pairs.specs.Pairs.{Pair, IsPlain, pairs_text, pairs_in, sorted_pairs}
 use Rattle.pairs.proofs.PairLemmas.{pairs_read_back, texts_follow, sorted_is_permutation}
-use Rattle.spill.specs.Runs.{of_part, run_of, new_runs, HasPairs, HasRuns, StandsBesideRuns, IsVacant}
-use Rattle.spill.specs.Chunks.{parts_of, sorted_parts_of, HasItems, list_at, StandsBesideLists, HasLists, AreListsFree, AreListsVacant, AreNoted}
+use Rattle.pieces.specs.Pieces.{IsVacant}
+use Rattle.spill.specs.Runs.{of_part, run_of, new_runs, HasPairs, HasRuns, StandsBesideRuns, StandsButRuns}
+use Rattle.spill.specs.Chunks.{parts_of, sorted_parts_of, HasItems, list_at, StandsBesideLists, StandsButLists, HasLists, AreListsFree, AreListsVacant, AreNoted}
 use Rattle.spill.specs.Spills.{IsWell}
 use Rattle.spill.proofs.ChunkLemmas.{part_at, length-parts_of}
 use Rattle.spill.proofs.WritingLemmas.{has_place}
@@ -110,6 +111,10 @@ lists_vacant folder flush reducers pairs state vacant part some =
 
 stands_beside_runs : (folder : Names) (flush reducers : ℕ) (pairs : List Pair) (entry s : State) → StandsBesideLists folder flush (sorted_parts_of reducers pairs) entry s → StandsBesideRuns folder flush reducers pairs entry s
 stands_beside_runs folder flush reducers pairs entry s stands q apart =
+    stands q (λ part some. apart part (list_below reducers part pairs some) (list_has_pairs reducers part pairs some))
+
+pub runs_alone : (folder : Names) (flush reducers : ℕ) (pairs : List Pair) (entry s : State) → StandsButLists folder flush (sorted_parts_of reducers pairs) entry s → StandsButRuns folder flush reducers pairs entry s
+runs_alone folder flush reducers pairs entry s stands q apart =
     stands q (λ part some. apart part (list_below reducers part pairs some) (list_has_pairs reducers part pairs some))
 
 pub steps_beside_runs : (folder : Names) (flush reducers : ℕ) (pairs : List Pair) (old new : Told) → Through (Both (StandsBesideLists folder flush (sorted_parts_of reducers pairs) (files old))) old new → Through (Both (StandsBesideRuns folder flush reducers pairs (files old))) old new

@@ -1,49 +1,25 @@
 -- What appends leave of the files of runs.
-use Rattle.std.proofs.Common.{◌≡◌, ◌≢◌, ◌∙◌, ap, sym, refl, subst, ℕ, ◌+◌, ◌<◌, ◌≤◌, Bool, true, false, if◌then◌else◌, ◌⊎◌, inl, inr, ⊎_elim, List, [], ◌∷◌, ◌++◌, Some, Result, length, get_or, set, take, arith}
-use Rattle.std.proofs.lemmas.Bool.{false≢true, cases_lt}
+use Rattle.std.proofs.Common.{◌≡◌, ◌≢◌, ◌∙◌, ap, sym, refl, subst, ℕ, ◌+◌, ◌<◌, ◌≤◌, true, ◌⊎◌, inl, inr, ⊎_elim, List, [], ◌∷◌, ◌++◌, Some, Result, length, get_or, set, take, arith}
+use Rattle.std.proofs.lemmas.Bool.{cases_lt}
 use Rattle.std.proofs.lemmas.Grind.{flat_map-append}
-use Rattle.std.proofs.lemmas.List.{append_assoc, append-nil, map_more, get_or_past, get_or-set_same, get_or-set_other}
-use Rattle.std.specs.Borrow.{Bor}
+use Rattle.std.proofs.lemmas.List.{append_assoc, append-nil, take_more, get_or_past, get_or-set_same, get_or-set_other}
 use Rattle.peg_text.specs.Pairs.{pair_line}
-use Rattle.peg_base.specs.Names.{Names, under, same_path}
-use Rattle.peg_base.proofs.Under.{under-refl, same_path_comm, same_path-refl}
+use Rattle.peg_base.specs.Names.{Names, under}
+use Rattle.peg_base.proofs.Under.{under-refl}
 use Rattle.dir_disk.specs.declared.dir.DirFault.{DirFault}
-use Rattle.dir_disk.specs.State.{Held, State, IsSound, StandsOutside, bytes_of, appended, after_append}
-use Rattle.dir_disk.specs.Calls.{Append, CanAppend, Does}
+use Rattle.dir_disk.specs.State.{Held, State, IsSound, StandsOutside, bytes_of}
+use Rattle.dir_disk.specs.Calls.{Append, Does}
 use Rattle.dir_disk.specs.Moments.{Told, Through, Both, files}
-use Rattle.dir_disk.proofs.Steps.{stands_call, appended_at}
+use Rattle.dir_disk.proofs.Steps.{stands_call}
 use Rattle.dir_disk.proofs.Through.{goes_on, then_goes, kept, weaker}
 use Rattle.pairs.specs.Pairs.{Pair, pairs_text}
-use Rattle.spill.specs.Runs.{run_of, run_name, new_runs, IsVacant}
+use Rattle.pieces.specs.Pieces.{IsVacant}
+use Rattle.spill.specs.Runs.{run_of, run_name, new_runs}
 use Rattle.spill.proofs.RunNames.{run_names_differ, children_apart, child_not_above}
-use Rattle.spill.specs.Chunks.{texts, gathered, HasItems, list_at, StandsBesideRun, StandsBesideLists, HasLists, AreListsVacant, AreNoted}
+use Rattle.pieces.specs.Pieces.{gathered}
+use Rattle.spill.specs.Chunks.{HasItems, list_at, StandsBesideRun, StandsBesideLists, StandsButRun, StandsButLists, HasLists, AreListsVacant, AreNoted}
 
 -- ---- one file
-
-not_chosen : (test : Bool) (h k : Held) → test ≡ false → (if test then h else k) ≡ k
-not_chosen true h k fails = absurd (false≢true (sym fails))
-not_chosen false h k fails = refl
-
-not_appended : (path : Names) (bytes : List ℕ) (s : State) (q : Names) → same_path path q ≡ false → after_append path bytes s q ≡ s q
-not_appended path bytes s q other =
-    not_chosen (same_path path q) (appended bytes (s q)) (s q) other
-
-can_append_after : (path : Names) (bytes : List ℕ) (s : State) → CanAppend s path → CanAppend (after_append path bytes s) path
-can_append_after path bytes s can =
-    record {
-      named = can.named;
-      is_open = λ q above other. ap (λ (h : Held). h.now) (not_appended path bytes s q (same_path_comm path q ∙ other)) ∙ can.is_open q above other;
-      nothing_under = λ q below other. ap (λ (h : Held). h.now) (not_appended path bytes s q other) ∙ can.nothing_under q below other;
-    }
-
-pub can_append_on : (path : Names) (bytes : List ℕ) (s t : State) → CanAppend s path → t ≡ after_append path bytes s → CanAppend t path
-can_append_on path bytes s t can is =
-    subst (λ (u : State). CanAppend u path) (sym is) (can_append_after path bytes s can)
-
--- what was gathered is in the file then
-pub gathered_after : (path : Names) (bytes : List ℕ) (s t : State) → t ≡ after_append path bytes s → (t path).now ≡ Some (gathered path s bytes)
-gathered_after path bytes s t is =
-    ap (λ (u : State). (u path).now) is ∙ ap (λ (h : Held). h.now) (appended_at path bytes s path (same_path-refl path))
 
 pub stands_start : (path : Names) (s : State) → StandsOutside path s s
 stands_start path s q apart = refl
@@ -83,20 +59,18 @@ noted_all folder flush lists count before after all noted part =
 
 -- ---- the pairs of one file
 
-abbrev text_of : Bor (List ℕ) × Bor (List ℕ) → Pair
-text_of s = (s.0.now, s.1.now)
-
 -- the text of one pair more
-texts_more : (slices : List (Bor (List ℕ) × Bor (List ℕ))) (i : ℕ) (d : Bor (List ℕ) × Bor (List ℕ)) → i < length slices → pairs_text (texts (take (i + 1) slices)) ≡ pairs_text (texts (take i slices)) ++ pair_line (get_or slices i d).0.now (get_or slices i d).1.now
-texts_more slices i d inside =
-    let p : Pair = text_of (get_or slices i d) in
-    ap pairs_text (map_more text_of slices i d inside) ∙ flat_map-append (λ (q : Pair). pair_line q.0 q.1) (texts (take i slices)) (p ∷ []) ∙ ap (λ (t : List ℕ). pairs_text (texts (take i slices)) ++ t) (append-nil (pair_line p.0 p.1))
+text_more : (pairs : List Pair) (i : ℕ) (d : Pair) → i < length pairs → pairs_text (take (i + 1) pairs) ≡ pairs_text (take i pairs) ++ pair_line (get_or pairs i d).0 (get_or pairs i d).1
+text_more pairs i d inside =
+    let p : Pair = get_or pairs i d in
+    ap pairs_text (take_more pairs i d inside) ∙ flat_map-append (λ (q : Pair). pair_line q.0 q.1) (take i pairs) (p ∷ []) ∙ ap (λ (t : List ℕ). pairs_text (take i pairs) ++ t) (append-nil (pair_line p.0 p.1))
 
 -- a pair was gathered, and maybe sent
-pub pair_sent : (path : Names) (s t : State) (piece line after : List ℕ) (slices : List (Bor (List ℕ) × Bor (List ℕ))) (i : ℕ) (d : Bor (List ℕ) × Bor (List ℕ)) → gathered path s piece ≡ pairs_text (texts (take i slices)) → i < length slices → line ≡ piece ++ pair_line (get_or slices i d).0.now (get_or slices i d).1.now → gathered path t after ≡ gathered path s line → gathered path t after ≡ pairs_text (texts (take (i + 1) slices))
-pair_sent path s t piece line after slices i d so_far inside is_line sent =
-    let more : List ℕ = pair_line (get_or slices i d).0.now (get_or slices i d).1.now in
-    sent ∙ ap (gathered path s) is_line ∙ sym (append_assoc (bytes_of (s path).now) piece more) ∙ ap (λ (t : List ℕ). t ++ more) so_far ∙ sym (texts_more slices i d inside)
+pub pair_sent : (path : Names) (s t : State) (piece line after : List ℕ) (pairs : List Pair) (i : ℕ) (p d : Pair) → gathered path s piece ≡ pairs_text (take i pairs) → i < length pairs → p ≡ get_or pairs i d → line ≡ piece ++ pair_line p.0 p.1 → gathered path t after ≡ gathered path s line → gathered path t after ≡ pairs_text (take (i + 1) pairs)
+pair_sent path s t piece line after pairs i p d so_far inside is_pair is_line sent =
+    let more : List ℕ = pair_line (get_or pairs i d).0 (get_or pairs i d).1 in
+    let same : pair_line p.0 p.1 ≡ more = ap (λ (q : Pair). pair_line q.0 q.1) is_pair in
+    sent ∙ ap (gathered path s) (is_line ∙ ap (λ (l : List ℕ). piece ++ l) same) ∙ sym (append_assoc (bytes_of (s path).now) piece more) ∙ ap (λ (t : List ℕ). t ++ more) so_far ∙ sym (text_more pairs i d inside)
 
 -- ---- the runs of all parts
 
@@ -152,6 +126,12 @@ written_more folder flush part i lists pairs mid new few inside at_part is_pairs
       done = λ n before some. ⊎_elim (λ (earlier : n < i). ap (λ (h : Held). h.now) (stands (run_of folder n flush) (λ _. children_apart folder (run_name n flush) (run_name i flush) (run_of folder n flush) (run_names_differ n i flush (omega arith) (omega arith) (λ same. omega (arith, same))) (under-refl (run_of folder n flush)))) ∙ below.done n earlier some) (λ (last : i ≤ n). let same : n ≡ i = omega arith in subst (λ (m : ℕ). HasItems (list_at lists m) → (files new (run_of folder m flush)).now ≡ Some (pairs_text (list_at lists m))) (sym same) mine some) (cases_lt n i);
       others = λ n from some. let place = has_place lists n some in still_vacant folder flush i n (list_at lists i) (files mid) (files new) (omega arith) (omega arith) (λ same. omega (arith, same)) stands (below.others n (omega arith) some);
     }
+
+-- the run of one list more alone has changed
+pub others_more : (folder : Names) (flush part i : ℕ) (lists : List (List Pair)) (pairs : List Pair) (old mid new : State) → part ≡ i → pairs ≡ list_at lists i → StandsButLists folder flush lists old mid → StandsButRun (run_of folder part flush) pairs mid new → StandsButLists folder flush lists old new
+others_more folder flush part i lists pairs old mid new at_part is_pairs so_far stands q apart =
+    let own : StandsButRun (run_of folder i flush) (list_at lists i) mid new = subst (λ (n : ℕ). StandsButRun (run_of folder n flush) (list_at lists i) mid new) at_part (subst (λ (ps : List Pair). StandsButRun (run_of folder part flush) ps mid new) is_pairs stands) in
+    own q (apart i) ∙ so_far q apart
 
 pub written_none : (folder : Names) (flush : ℕ) (lists : List (List Pair)) (state : State) → AreListsVacant folder flush lists state → WrittenBelow folder flush lists 0 state
 written_none folder flush lists state vacant =

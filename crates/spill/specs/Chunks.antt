@@ -1,16 +1,12 @@
 -- A chunk of pairs, dealt out to their parts.
 use Rattle.std.specs.Prelude.{◌≡◌, ℕ, false, List, [], ◌++◌, Some, map, slice_index_or}
-use Rattle.std.specs.Borrow.{Bor}
 use Rattle.std.specs.List.{range_with_len}
-use Rattle.peg_base.specs.Names.{Names, under}
-use Rattle.dir_disk.specs.State.{State, bytes_of}
+use Rattle.peg_base.specs.Names.{Names, same_path, under}
+use Rattle.dir_disk.specs.State.{State}
 use Rattle.dir_disk.specs.Lent.{Loan, IsFree}
 use Rattle.pairs.specs.Pairs.{Pair, pairs_text, sorted_pairs}
-use Rattle.spill.specs.Runs.{of_part, run_of, new_runs, IsVacant}
-
--- pairs that are slices of a text
-abbrev pub texts : List (Bor (List ℕ) × Bor (List ℕ)) → List Pair
-texts slices = map (λ s. (s.0.now, s.1.now)) slices
+use Rattle.pieces.specs.Pieces.{IsVacant}
+use Rattle.spill.specs.Runs.{of_part, run_of, new_runs}
 
 -- the pairs of each part
 abbrev pub parts_of : ℕ → List Pair → List (List Pair)
@@ -19,10 +15,6 @@ parts_of reducers pairs = map (λ part. of_part reducers part pairs) (range_with
 -- the same, each part sorted
 abbrev pub sorted_parts_of : ℕ → List Pair → List (List Pair)
 sorted_parts_of reducers pairs = map sorted_pairs (parts_of reducers pairs)
-
--- what is in the file and what was gathered for it
-abbrev pub gathered : Names → State → List ℕ → List ℕ
-gathered path state piece = bytes_of (state path).now ++ piece
 
 abbrev pub HasItems : List Pair → Type 0
 HasItems pairs = (pairs ≡ [] → ⊥)
@@ -40,6 +32,16 @@ StandsBesideRun run pairs entry state =
 abbrev pub StandsBesideLists : Names → ℕ → List (List Pair) → State → State → Type 0
 StandsBesideLists folder flush lists entry state =
     (path : Names) → ((part : ℕ) → HasItems (list_at lists part) → under (run_of folder part flush) path ≡ false) → state path ≡ entry path
+
+-- the run of these pairs alone has changed; without pairs nothing has
+abbrev pub StandsButRun : Names → List Pair → State → State → Type 0
+StandsButRun run pairs entry state =
+    (path : Names) → (HasItems pairs → same_path run path ≡ false) → state path ≡ entry path
+
+-- the runs of these lists alone, by their parts, have changed
+abbrev pub StandsButLists : Names → ℕ → List (List Pair) → State → State → Type 0
+StandsButLists folder flush lists entry state =
+    (path : Names) → ((part : ℕ) → HasItems (list_at lists part) → same_path (run_of folder part flush) path ≡ false) → state path ≡ entry path
 
 -- the run of each of these lists that has pairs is written
 abbrev pub HasLists : Names → ℕ → List (List Pair) → State → Type 0

@@ -2,9 +2,8 @@
 use Rattle.std.specs.Prelude.{◌≡◌, ℕ, ◌<◌, ◌==◌, false, List, [], ◌∷◌, ◌++◌, None, Some, codes}
 use Rattle.std.specs.List.{filter}
 use Rattle.partition.specs.Hash.{part_among}
-use Rattle.peg_base.specs.Names.{Names, under}
+use Rattle.peg_base.specs.Names.{Names, same_path, under}
 use Rattle.dir_disk.specs.State.{Content, State}
-use Rattle.dir_disk.specs.Calls.{CanAppend}
 use Rattle.digit_names.specs.Digits.{digits}
 use Rattle.pairs.specs.Pairs.{Pair, pairs_text, sorted_pairs}
 
@@ -30,11 +29,6 @@ abbrev pub new_runs : Names → List Pair → List Names
 new_runs path [] = []
 new_runs path (p ∷ ps) = path ∷ []
 
--- a file can be at the path, and none is there
-pub record IsVacant (path : Names) (state : State) : Type 0 where
-  pub can : CanAppend state path
-  pub none : (state path).now ≡ None
-
 -- some pair is of the part
 abbrev pub HasPairs : ℕ → ℕ → List Pair → Type 0
 HasPairs reducers part pairs = (of_part reducers part pairs ≡ [] → ⊥)
@@ -43,6 +37,11 @@ HasPairs reducers part pairs = (of_part reducers part pairs ≡ [] → ⊥)
 abbrev pub StandsBesideRuns : Names → ℕ → ℕ → List Pair → State → State → Type 0
 StandsBesideRuns folder flush reducers pairs entry state =
     (path : Names) → ((part : ℕ) → part < reducers → HasPairs reducers part pairs → under (run_of folder part flush) path ≡ false) → state path ≡ entry path
+
+-- the runs of this flush alone have changed
+abbrev pub StandsButRuns : Names → ℕ → ℕ → List Pair → State → State → Type 0
+StandsButRuns folder flush reducers pairs entry state =
+    (path : Names) → ((part : ℕ) → part < reducers → HasPairs reducers part pairs → same_path (run_of folder part flush) path ≡ false) → state path ≡ entry path
 
 -- each part that has pairs has its run, with all of them, sorted
 abbrev pub HasRuns : Names → ℕ → ℕ → List Pair → State → Type 0

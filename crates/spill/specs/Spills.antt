@@ -5,7 +5,8 @@ use Rattle.peg_base.specs.Names.{Names}
 use Rattle.dir_disk.specs.State.{State}
 use Rattle.dir_disk.specs.Lent.{Loan, IsFree}
 use Rattle.pairs.specs.Pairs.{Pair, IsPlain, pairs_text, pairs_in}
-use Rattle.spill.specs.Runs.{of_part, run_of, HasPairs, IsVacant}
+use Rattle.pieces.specs.Pieces.{IsVacant}
+use Rattle.spill.specs.Runs.{of_part, run_of, HasPairs}
 
 -- the limit in bytes, the number of parts, the folder of the runs, the pairs held in the order in which they were pushed, how many flushes had pairs, and for each part the paths of its runs
 pub record Held : Type 0 where

@@ -4,6 +4,7 @@
 mod chunk;
 mod fault;
 pub mod laws;
+mod line;
 mod names;
 mod spill;
 #[cfg(test)]

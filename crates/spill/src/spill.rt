@@ -1,9 +1,9 @@
 ghost use Rattle.std.specs.Prelude.{◌≡◌, ℕ, ◌+◌, ◌<◌, ◌≤◌, ◌↔◌, ◌++◌, [], length, map, All, IfOk, OnOk, OnErr, IsOk, IsTrue, replicate};
 ghost use Rattle.dir_disk.specs.Causes.{HasCause};
 ghost use Rattle.dir_disk.specs.Moments.{Both, Through, files};
-ghost use Rattle.pairs.specs.Pairs.{IsPlain, pairs_in};
-ghost use Rattle.spill.specs.Runs.{new_runs, StandsBesideRuns, HasRuns};
-ghost use Rattle.spill.specs.Chunks.{sorted_parts_of, StandsBesideLists, HasLists, AreListsFree, AreListsVacant, AreNoted};
+ghost use Rattle.pairs.specs.Pairs.{IsPlain, pairs_in, pairs_text};
+ghost use Rattle.spill.specs.Runs.{new_runs, StandsBesideRuns, StandsButRuns, HasRuns};
+ghost use Rattle.spill.specs.Chunks.{sorted_parts_of, StandsBesideLists, StandsButLists, HasLists, AreListsFree, AreListsVacant, AreNoted};
 ghost use Rattle.spill.specs.Spills.{empty_spill, with_pair, bytes_held, pairs_at, runs_at, next_run, AreFree, AreVacant, number_after};
 
 use crate::chunk::sorted_parts;
@@ -92,6 +92,8 @@ impl Spill {
             → Through (Both (StandsBesideRuns self.old.folder self.old.flushes self.old.reducers self.old.pairs entry)) (D.told dir.old) (D.told dir.new) }
         ensures written { D.tells
             → OnOk result (HasRuns self.old.folder self.old.flushes self.old.reducers self.old.pairs (files (D.told dir.new))) }
+        ensures others { let entry = files (D.told dir.old) in D.tells
+            → OnOk result (StandsButRuns self.old.folder self.old.flushes self.old.reducers self.old.pairs entry (files (D.told dir.new))) }
         ensures held { OnOk result (self.new.pairs ≡ []) }
         ensures numbered { OnOk result (self.new.flushes ≡ number_after self.old.pairs self.old.flushes) }
         ensures runs { OnOk result ((part : ℕ) → part < self.old.reducers
@@ -159,6 +161,7 @@ fn write_chunk<D: Dir>(
 ) -> Result<(), SpillFault>
     requires some { 1 ≤ reducers }
     requires few { reducers ≤ 100000 }
+    requires lines { pairs_text (pairs_in text.now) ≡ text.now }
     requires short { length folder.now < 8 }
     requires runs { length runs.old.items ≡ reducers }
     requires lent { AreListsFree folder.now flush (sorted_parts_of reducers (pairs_in text.now)) (D.lent dir.old) }
@@ -168,6 +171,8 @@ fn write_chunk<D: Dir>(
         → Through (Both (StandsBesideLists folder.now flush lists (files (D.told dir.old)))) (D.told dir.old) (D.told dir.new) }
     ensures written { D.tells
         → OnOk result (HasLists folder.now flush (sorted_parts_of reducers (pairs_in text.now)) (files (D.told dir.new))) }
+    ensures others { let lists = sorted_parts_of reducers (pairs_in text.now) in D.tells
+        → OnOk result (StandsButLists folder.now flush lists (files (D.told dir.old)) (files (D.told dir.new))) }
     ensures len { length runs.new.items ≡ length runs.old.items }
     ensures noted { OnOk result
         (AreNoted folder.now flush (sorted_parts_of reducers (pairs_in text.now)) (map (λ paths. paths.items) runs.old.items) (map (λ paths. paths.items) runs.new.items)) }

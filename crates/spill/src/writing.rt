@@ -2,70 +2,44 @@ ghost use Rattle.std.specs.Prelude.{◌≡◌, ◌<◌, ◌≤◌, ◌++◌, Som
 ghost use Rattle.dir_disk.specs.Causes.{HasCause};
 ghost use Rattle.dir_disk.specs.State.{StandsOutside};
 ghost use Rattle.dir_disk.specs.Moments.{Both, Through, files};
-ghost use Rattle.dir_disk.specs.Calls.{CanAppend};
+ghost use Rattle.dir_disk.specs.Keeping.{StandsBut};
 ghost use Rattle.dir_disk.specs.Lent.{IsFree};
 ghost use Rattle.pairs.specs.Pairs.{pairs_text};
-ghost use Rattle.spill.specs.Runs.{run_of, new_runs, IsVacant};
-ghost use Rattle.spill.specs.Chunks.{texts, gathered, HasItems, StandsBesideRun, StandsBesideLists, HasLists, AreListsFree, AreListsVacant, AreNoted};
+ghost use Rattle.pieces.specs.Pieces.{IsVacant};
+ghost use Rattle.spill.specs.Runs.{run_of, new_runs};
+ghost use Rattle.spill.specs.Chunks.{HasItems, StandsBesideRun, StandsButRun, StandsBesideLists, StandsButLists, HasLists, AreListsFree, AreListsVacant, AreNoted};
 
-use crate::chunk::Slices;
+use crate::chunk::Lines;
 use crate::fault::SpillFault;
+use crate::line::Line;
 use crate::names::run_path;
 use dir_disk::Dir;
 use peg_base::Path;
-use peg_text::{NoMemory, write_pair};
+use peg_text::NoMemory;
+use pieces::send_piece;
 use std::alloc::Global;
-
-/// How many bytes are gathered before they are appended.
-const PIECE: usize = 65536;
-
-/// Appends the bytes that were gathered for a file, once they are a piece.
-fn send_piece<D: Dir>(
-    alloc: Global,
-    dir: &mut D,
-    path: &Path,
-    piece: &mut Vec<u8>,
-) -> Result<(), SpillFault>
-    requires lent { IsFree (D.lent dir.old) path.now }
-    requires can { D.tells → CanAppend (files (D.told dir.old)) path.now }
-    ensures steps { D.tells
-        → Through (Both (StandsOutside path.now (files (D.told dir.old)))) (D.told dir.old) (D.told dir.new) }
-    ensures can { D.tells → OnOk result (CanAppend (files (D.told dir.new)) path.now) }
-    ensures sent { D.tells
-        → OnOk result (gathered path.now (files (D.told dir.new)) piece.new.items
-        ≡ gathered path.now (files (D.told dir.old)) piece.old.items) }
-    ensures lent { D.lent dir.new ≡ D.lent dir.old }
-    ensures beside { D.beside dir.new ≡ D.beside dir.old }
-    ensures cause { HasCause SpillFault.Disk (D.faults dir.old) (D.faults dir.new) result }
-{
-    if piece.len() < PIECE {
-        return Ok(());
-    }
-    dir.append(alloc, path, piece)?;
-    piece.clear();
-    Ok(())
-}
 
 /// Writes pairs to a file that isn't there yet, in pieces.
 fn write_pairs<D: Dir>(
     alloc: Global,
     dir: &mut D,
     path: &Path,
-    pairs: &[(&[u8], &[u8])],
+    pairs: &[Line<'_>],
 ) -> Result<(), SpillFault>
     requires lent { IsFree (D.lent dir.old) path.now }
     requires vacant { D.tells → IsVacant path.now (files (D.told dir.old)) }
     ensures steps { D.tells
         → Through (Both (StandsOutside path.now (files (D.told dir.old)))) (D.told dir.old) (D.told dir.new) }
     ensures written { D.tells
-        → OnOk result ((files (D.told dir.new) path.now).now ≡ Some (pairs_text (texts pairs.now))) }
+        → OnOk result ((files (D.told dir.new) path.now).now ≡ Some (pairs_text pairs.now)) }
+    ensures others { D.tells → OnOk result (StandsBut path.now (files (D.told dir.old)) (files (D.told dir.new))) }
     ensures lent { D.lent dir.new ≡ D.lent dir.old }
     ensures beside { D.beside dir.new ≡ D.beside dir.old }
     ensures cause { HasCause SpillFault.Disk (D.faults dir.old) (D.faults dir.new) result }
 {
     let mut piece = Vec::new(alloc);
-    for (key, value) in pairs {
-        write_pair(alloc, &mut piece, key, value)?;
+    for line in pairs {
+        line.write(alloc, &mut piece)?;
         send_piece(alloc, dir, path, &mut piece)?;
     }
     dir.append(alloc, path, &piece)?;
@@ -79,17 +53,19 @@ fn write_run<D: Dir>(
     folder: &Path,
     part: u32,
     flush: u64,
-    pairs: &[(&[u8], &[u8])],
+    pairs: &[Line<'_>],
 ) -> Result<(), SpillFault>
     requires short { length folder.now < 8 }
-    requires lent { HasItems (texts pairs.now) → IsFree (D.lent dir.old) (run_of folder.now part flush) }
+    requires lent { HasItems pairs.now → IsFree (D.lent dir.old) (run_of folder.now part flush) }
     requires vacant { D.tells
-        → HasItems (texts pairs.now) → IsVacant (run_of folder.now part flush) (files (D.told dir.old)) }
+        → HasItems pairs.now → IsVacant (run_of folder.now part flush) (files (D.told dir.old)) }
     ensures steps { let run = run_of folder.now part flush in D.tells
-        → Through (Both (StandsBesideRun run (texts pairs.now) (files (D.told dir.old)))) (D.told dir.old) (D.told dir.new) }
+        → Through (Both (StandsBesideRun run pairs.now (files (D.told dir.old)))) (D.told dir.old) (D.told dir.new) }
     ensures written { D.tells
-        → OnOk result (HasItems (texts pairs.now)
-        → (files (D.told dir.new) (run_of folder.now part flush)).now ≡ Some (pairs_text (texts pairs.now))) }
+        → OnOk result (HasItems pairs.now
+        → (files (D.told dir.new) (run_of folder.now part flush)).now ≡ Some (pairs_text pairs.now)) }
+    ensures others { let run = run_of folder.now part flush in D.tells
+        → OnOk result (StandsButRun run pairs.now (files (D.told dir.old)) (files (D.told dir.new))) }
     ensures lent { D.lent dir.new ≡ D.lent dir.old }
     ensures beside { D.beside dir.new ≡ D.beside dir.old }
     ensures cause { HasCause SpillFault.Disk (D.faults dir.old) (D.faults dir.new) result }
@@ -107,17 +83,19 @@ pub(crate) fn write_runs<D: Dir>(
     dir: &mut D,
     folder: &Path,
     flush: u64,
-    parts: &[Slices<'_>],
+    parts: &[Lines<'_>],
 ) -> Result<(), SpillFault>
     requires short { length folder.now < 8 }
     requires few { length parts.now ≤ 100000 }
-    requires lent { AreListsFree folder.now flush (map (λ pairs. texts pairs.items) parts.now) (D.lent dir.old) }
+    requires lent { AreListsFree folder.now flush (map (λ pairs. pairs.items) parts.now) (D.lent dir.old) }
     requires vacant { D.tells
-        → AreListsVacant folder.now flush (map (λ pairs. texts pairs.items) parts.now) (files (D.told dir.old)) }
-    ensures steps { let lists = map (λ pairs. texts pairs.items) parts.now in D.tells
+        → AreListsVacant folder.now flush (map (λ pairs. pairs.items) parts.now) (files (D.told dir.old)) }
+    ensures steps { let lists = map (λ pairs. pairs.items) parts.now in D.tells
         → Through (Both (StandsBesideLists folder.now flush lists (files (D.told dir.old)))) (D.told dir.old) (D.told dir.new) }
-    ensures written { let lists = map (λ pairs. texts pairs.items) parts.now in D.tells
+    ensures written { let lists = map (λ pairs. pairs.items) parts.now in D.tells
         → OnOk result (HasLists folder.now flush lists (files (D.told dir.new))) }
+    ensures others { let lists = map (λ pairs. pairs.items) parts.now in D.tells
+        → OnOk result (StandsButLists folder.now flush lists (files (D.told dir.old)) (files (D.told dir.new))) }
     ensures lent { D.lent dir.new ≡ D.lent dir.old }
     ensures beside { D.beside dir.new ≡ D.beside dir.old }
     ensures cause { HasCause SpillFault.Disk (D.faults dir.old) (D.faults dir.new) result }
@@ -136,12 +114,12 @@ fn note_run(
     folder: &Path,
     part: u32,
     flush: u64,
-    pairs: &[(&[u8], &[u8])],
+    pairs: &[Line<'_>],
     paths: &mut Vec<Path>,
 ) -> Result<(), NoMemory>
     requires { length folder.now < 8 }
     ensures { OnOk result
-        (paths.new.items ≡ paths.old.items ++ new_runs (run_of folder.now part flush) (texts pairs.now)) }
+        (paths.new.items ≡ paths.old.items ++ new_runs (run_of folder.now part flush) pairs.now) }
 {
     if !pairs.is_empty() {
         paths.push(run_path(alloc, folder, part, flush)?)?;
@@ -154,7 +132,7 @@ pub(crate) fn note_runs(
     alloc: Global,
     folder: &Path,
     flush: u64,
-    lists: &[Slices<'_>],
+    lists: &[Lines<'_>],
     runs: &mut Vec<Vec<Path>>,
 ) -> Result<(), NoMemory>
     requires short { length folder.now < 8 }
@@ -162,7 +140,7 @@ pub(crate) fn note_runs(
     requires same { length lists.now ≡ length runs.old.items }
     ensures len { length runs.new.items ≡ length runs.old.items }
     ensures noted { OnOk result
-        (AreNoted folder.now flush (map (λ pairs. texts pairs.items) lists.now) (map (λ paths. paths.items) runs.old.items) (map (λ paths. paths.items) runs.new.items)) }
+        (AreNoted folder.now flush (map (λ pairs. pairs.items) lists.now) (map (λ paths. paths.items) runs.old.items) (map (λ paths. paths.items) runs.new.items)) }
 {
     let mut part = 0;
     for pairs in lists {

@@ -1,14 +1,12 @@
-use Rattle.std.proofs.Common.{◌≡◌, ◌∙◌, ℕ, List, length, ap, sym, arith, Vec, Global}
-use Rattle.std.specs.Borrow.{Bor}
+use Rattle.std.proofs.Common.{◌≡◌, ◌∙◌, List, length, ap, sym, arith, Vec, Global}
 use Rattle.std.proofs.lemmas.List.{length-map}
 use Rattle.pairs.specs.Pairs.{Pair, pairs_in}
-use Rattle.spill.specs.Chunks.{texts}
 use Rattle.spill.proofs.SpillLemmas.{length-sorted_parts_of}
 use Rattle.spill.proofs.spill.write_chunk.Goals as goal
 
--- what a vector of slices holds
-abbrev pairs_of : Vec (Bor (List ℕ) × Bor (List ℕ)) Global → List Pair
-pairs_of slices = texts slices.items
+-- what a vector of lines holds
+abbrev pairs_of : Vec Pair Global → List Pair
+pairs_of lines = lines.items
 
 pub write_runs-requires-clause-few : goal.write_runs-requires-clause-few
 write_runs-requires-clause-few g c =

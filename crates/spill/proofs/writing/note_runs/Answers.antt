@@ -1,16 +1,15 @@
 use Rattle.std.proofs.Common.{◌≡◌, ◌∙◌, ◌+◌, ◌<◌, ◌++◌, ℕ, List, [], map, length, get_or, set, ap, sym, subst, arith, Vec, Global}
-use Rattle.std.specs.Borrow.{Bor}
 use Rattle.std.proofs.lemmas.List.{length-map, length-set, map-set, get_or-map}
 use Rattle.peg_base.specs.Names.{Names}
 use Rattle.pairs.specs.Pairs.{Pair}
 use Rattle.spill.specs.Runs.{run_of, new_runs}
-use Rattle.spill.specs.Chunks.{texts, list_at}
+use Rattle.spill.specs.Chunks.{list_at}
 use Rattle.spill.proofs.WritingLemmas.{NotedBelow, noted_more, noted_all}
 use Rattle.spill.proofs.writing.note_runs.Goals as goal
 
--- what a vector of slices, or of paths, holds
-abbrev pairs_of : Vec (Bor (List ℕ) × Bor (List ℕ)) Global → List Pair
-pairs_of slices = texts slices.items
+-- what a vector of lines, or of paths, holds
+abbrev pairs_of : Vec Pair Global → List Pair
+pairs_of lines = lines.items
 
 abbrev names_of : Vec Names Global → List Names
 names_of paths = paths.items
@@ -30,8 +29,8 @@ loop-pairs-preserved c =
     let long : length after ≡ length items = length-map items names_of in
     let there : i < length after = omega arith in
     let paths : names_of c.index_mut.result.now ≡ get_or after i [] = ap names_of c.index_mut.ensures.value ∙ ap (λ (n : ℕ). names_of (get_or items n c.index_mut.result.now)) at_part ∙ sym (get_or-map names_of items i c.index_mut.result.now [] inside) in
-    let pairs : texts c.deref.result.now ≡ list_at lists i = ap texts c.deref.ensures.value ∙ ap pairs_of c.pairs-item.is ∙ sym (get_or-map pairs_of c.args.lists.now i c.pairs-item.result [] c.loop-pairs-test.true) in
-    let noted : names_of more ≡ names_of c.index_mut.result.now ++ new_runs (run_of folder i flush) (list_at lists i) = c.in_ok-note_run.ensures ∙ ap (λ (n : ℕ). names_of c.index_mut.result.now ++ new_runs (run_of folder n flush) (texts c.deref.result.now)) at_part ∙ ap (λ (ps : List Pair). names_of c.index_mut.result.now ++ new_runs (run_of folder i flush) ps) pairs in
+    let pairs : c.deref.result.now ≡ list_at lists i = c.deref.ensures.value ∙ ap pairs_of c.pairs-item.is ∙ sym (get_or-map pairs_of c.args.lists.now i c.pairs-item.result [] c.loop-pairs-test.true) in
+    let noted : names_of more ≡ names_of c.index_mut.result.now ++ new_runs (run_of folder i flush) (list_at lists i) = c.in_ok-note_run.ensures ∙ ap (λ (n : ℕ). names_of c.index_mut.result.now ++ new_runs (run_of folder n flush) c.deref.result.now) at_part ∙ ap (λ (ps : List Pair). names_of c.index_mut.result.now ++ new_runs (run_of folder i flush) ps) pairs in
     record {
       part = ap (λ (n : ℕ). n + 1) at_part;
       len = length-set items c.loop-pairs.part more ∙ c.loop-pairs.invariant.len;

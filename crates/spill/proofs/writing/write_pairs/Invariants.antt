@@ -1,16 +1,18 @@
 use Rattle.std.proofs.Common.{◌≡◌, ◌≤◌, take}
 use Rattle.dir_disk.specs.Calls.{CanAppend}
+use Rattle.dir_disk.specs.Keeping.{StandsBut}
 use Rattle.dir_disk.specs.Moments.{Both, Through, files}
 use Rattle.dir_disk.specs.State.{StandsOutside}
 use Rattle.pairs.specs.Pairs.{pairs_text}
-use Rattle.spill.specs.Chunks.{texts, gathered}
+use Rattle.pieces.specs.Pieces.{gathered}
 use Rattle.spill.proofs.writing.write_pairs.Given as goal
 
-abbrev pub invariant-loop-key : goal.invariant-loop-key
-invariant-loop-key g l = record {
+abbrev pub invariant-loop-line : goal.invariant-loop-line
+invariant-loop-line g l = record {
   steps : g.D.Dir.tells → Through (Both (StandsOutside l.path (files (g.D.Dir.told l.fn.dir)))) (g.D.Dir.told l.fn.dir) (g.D.Dir.told l.dir);
   can : g.D.Dir.tells → CanAppend (files (g.D.Dir.told l.dir)) l.path;
-  sent : g.D.Dir.tells → gathered l.path (files (g.D.Dir.told l.dir)) l.piece.items ≡ pairs_text (texts (take l.key-index l.pairs));
+  others : g.D.Dir.tells → StandsBut l.path (files (g.D.Dir.told l.fn.dir)) (files (g.D.Dir.told l.dir));
+  sent : g.D.Dir.tells → gathered l.path (files (g.D.Dir.told l.dir)) l.piece.items ≡ pairs_text (take l.line-index l.pairs);
   lent : g.D.Dir.lent l.dir ≡ g.D.Dir.lent l.fn.dir;
   beside : g.D.Dir.beside l.dir ≡ g.D.Dir.beside l.fn.dir;
   later : g.D.Dir.faults l.fn.dir ≤ g.D.Dir.faults l.dir;

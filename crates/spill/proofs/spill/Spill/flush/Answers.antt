@@ -3,10 +3,10 @@ use Rattle.std.specs.List.{All}
 use Rattle.peg_base.specs.Names.{Names}
 use Rattle.dir_disk.specs.Moments.{Told, Through, Both, files}
 use Rattle.pairs.specs.Pairs.{IsPlain, pairs_in}
-use Rattle.spill.specs.Runs.{new_runs, StandsBesideRuns, HasRuns}
-use Rattle.spill.specs.Chunks.{sorted_parts_of, AreListsFree, AreListsVacant, StandsBesideLists, HasLists, AreNoted}
+use Rattle.spill.specs.Runs.{new_runs, StandsBesideRuns, StandsButRuns, HasRuns}
+use Rattle.spill.specs.Chunks.{sorted_parts_of, AreListsFree, AreListsVacant, StandsBesideLists, StandsButLists, HasLists, AreNoted}
 use Rattle.spill.specs.Spills.{Held, pairs_at, runs_at, next_run, AreFree, AreVacant}
-use Rattle.spill.proofs.SpillLemmas.{lists_free, lists_vacant, steps_beside_runs, runs_written, runs_noted}
+use Rattle.spill.proofs.SpillLemmas.{lists_free, lists_vacant, steps_beside_runs, runs_alone, runs_written, runs_noted}
 use Rattle.spill.proofs.spill.Spill.flush.Goals as goal
 
 -- what a vector of paths holds
@@ -60,6 +60,15 @@ returns-clause-written g c =
     let new : Told = g.D.Dir.told c.write_chunk.new.dir in
     let written = subst (λ (t : List ℕ). HasLists inside.folder inside.flushes (sorted_parts_of inside.reducers (pairs_in t)) (files new)) c.deref.ensures.value (c.in_ok-write_chunk.ensures.written tells) in
     subst (λ (h : Held). HasRuns h.folder h.flushes h.reducers h.pairs (files new)) c.self.view_is (runs_written inside.folder inside.flushes inside.reducers (pairs_in inside.text.items) (files new) written)
+
+pub returns-clause-others : goal.returns-clause-others
+returns-clause-others g c =
+    λ tells.
+    let inside = c.self.inside in
+    let old = files (g.D.Dir.told c.args.dir.now) in
+    let new = files (g.D.Dir.told c.write_chunk.new.dir) in
+    let alone = subst (λ (t : List ℕ). StandsButLists inside.folder inside.flushes (sorted_parts_of inside.reducers (pairs_in t)) old new) c.deref.ensures.value (c.in_ok-write_chunk.ensures.others tells) in
+    subst (λ (h : Held). StandsButRuns h.folder h.flushes h.reducers h.pairs old new) c.self.view_is (runs_alone inside.folder inside.flushes inside.reducers (pairs_in inside.text.items) old new alone)
 
 pub returns-clause-runs : goal.returns-clause-runs
 returns-clause-runs g c =

@@ -1,0 +1,101 @@
+ghost use Rattle.std.specs.Prelude.{◌≡◌, ◌++◌, OnOk, refl};
+ghost use Rattle.std.specs.Cmp;
+ghost use Rattle.std.specs.Ordering.{as_partial_cmp, eq_by_cmp};
+ghost use Rattle.std.proofs.lemmas.Cmp.{eq_by_cmp_equiv};
+ghost use Rattle.peg_text.specs.Pairs.{key_of, value_of, pair_text, pair_line};
+ghost use Rattle.pairs.specs.Pairs.{pair_cmp, pair_of};
+ghost use Rattle.pairs.specs.Prefixes.{prefix_of};
+ghost use Rattle.pairs.proofs.PairLemmas.{pair_cmp_total};
+
+use peg_text::{NoMemory, split_pair};
+use std::alloc::Global;
+use std::cmp::Ordering;
+use std::marker::Model;
+
+/// A pair that lies in a chunk's text as a line, beside the prefix of its key. Contracts see the pair, and lines are in
+/// the order of pairs.
+#[derive(Drop)]
+pub(crate) struct Line<'a> {
+    prefix: u64,
+    text: &'a [u8],
+}
+
+impl<'a> Model for Line<'a> {
+    ghost use Rattle.pairs.specs.Pairs.{Pair, pair_of};
+    ghost use Rattle.spill.specs.Lines.{HasPrefix};
+
+    ghost Value = { Pair };
+
+    ghost view = { λ line. pair_of line.text.now };
+
+    ghost invariant = { λ line. HasPrefix line.text.now line.prefix };
+}
+
+impl<'a> Line<'a> {
+    /// The pair of a text with a TAB, whose key has this prefix.
+    pub fn new(text: &'a [u8], prefix: u64) -> Line<'a>
+        requires prefix { prefix ≡ prefix_of (key_of text.now) }
+        requires whole { pair_text (key_of text.now) (value_of text.now) ≡ text.now }
+        ensures { result ≡ pair_of text.now }
+    {
+        Line { prefix, text }
+    }
+
+    /// Appends the line and its LF. After a refusal a part of it may have been appended.
+    pub fn write(&self, _: Global, out: &mut Vec<u8>) -> Result<(), NoMemory>
+        ensures { OnOk result (out.new.items ≡ out.old.items ++ pair_line self.now.0 self.now.1) }
+    {
+        out.extend_from_slice(self.text)?;
+        out.push(b'\n')?;
+        Ok(())
+    }
+
+    /// Its key and its value.
+    fn pair(&self) -> (&'a [u8], &'a [u8])
+        ensures key { result.0.now ≡ self.now.0 }
+        ensures value { result.1.now ≡ self.now.1 }
+    {
+        split_pair(self.text)
+    }
+}
+
+impl<'a> PartialEq for Line<'a> {
+    ghost eq = { eq_by_cmp pair_cmp };
+
+    ghost laws = { Cmp.partial_equiv_from_equiv (eq_by_cmp_equiv pair_cmp_total) };
+
+    fn eq(&self, other: &Line<'a>) -> bool {
+        self.cmp(other).is_eq()
+    }
+}
+
+impl<'a> Eq for Line<'a> {
+    ghost laws = { eq_by_cmp_equiv pair_cmp_total };
+}
+
+impl<'a> PartialOrd for Line<'a> {
+    ghost partial_cmp = { as_partial_cmp pair_cmp };
+
+    ghost laws = { Cmp.partial_order_from_total pair_cmp_total };
+
+    fn partial_cmp(&self, other: &Line<'a>) -> Option<Ordering> {
+        Some(self.cmp(other))
+    }
+}
+
+impl<'a> Ord for Line<'a> {
+    ghost cmp = { pair_cmp };
+
+    ghost total = { pair_cmp_total };
+
+    ghost matches_partial_cmp = { λ x y. refl };
+
+    ghost matches_eq = { λ x y. refl };
+
+    fn cmp(&self, other: &Line<'a>) -> Ordering {
+        match self.prefix.cmp(&other.prefix) {
+            Ordering::Equal => self.pair().cmp(&other.pair()),
+            order => order,
+        }
+    }
+}
