@@ -1,7 +1,6 @@
 -- The laws of merges.
-use Rattle.std.proofs.Common.{◌≡◌, ap, refl, ℕ, ◌+◌, ◌-◌, ◌*◌, ◌≤◌, ◌<◌, List, length, arith, length-drop}
+use Rattle.std.proofs.Common.{refl, ℕ, ◌*◌, length, arith, length-drop}
 use Rattle.digit_names.specs.Digits.{digits}
-use Rattle.pairs.specs.Pairs.{Pair}
 use Rattle.merge.specs.Laws.{LeastFirstPairComesFirst, MergeNamesByExample, PassesAreNeeded, TenAreLeftAtMost}
 use Rattle.merge.specs.Runs.{after_passes, merge_name, passes}
 use Rattle.merge.proofs.MergeLemmas.{merged_step}

@@ -1,4 +1,6 @@
+pub mod HeadLemmas
 pub mod LawLemmas
+pub mod LeaderLemmas
 pub mod MergeLemmas
 pub mod OpenLemmas
 pub mod PassLemmas

@@ -11,7 +11,7 @@ use Rattle.pairs.specs.Pairs.{Pair, pairs_in, sorted_pairs, IsInOrder}
 use Rattle.merge.specs.declared.source.Source.{Source}
 use Rattle.merge.specs.Runs.{IsRun, lists_at, merged_at, ten_merged}
 use Rattle.merge.specs.Sources.{all_of, bytes_at, left_of, lefts, IsSource}
-use Rattle.merge.specs.Writing.{IsVacant}
+use Rattle.pieces.specs.Pieces.{IsVacant}
 
 abbrev pub path_of : Source → Names
 path_of source = source.path

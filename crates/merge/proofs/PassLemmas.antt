@@ -23,7 +23,7 @@ use Rattle.pairs.specs.Pairs.{Pair, IsPlain, IsInOrder, pairs_in, pairs_text, so
 use Rattle.pairs.proofs.PairLemmas.{sorted_is_in_order, sorted_is_permutation, permutations_sort_alike, pairs_read_back}
 use Rattle.merge.specs.Runs.{ArePassesFree, IsAfterPasses, IsRun, HasPasses, StandsBesideMerge, StandsBesidePasses, after_passes, lists_at, merge_name, merge_of, pass_pairs, passes, queue_of, ten_merged}
 use Rattle.merge.specs.Sources.{all_of, bytes_at}
-use Rattle.merge.specs.Writing.{IsVacant}
+use Rattle.pieces.specs.Pieces.{IsVacant}
 
 -- ---- lists
 

@@ -1,7 +1,7 @@
 -- What one pair more leaves of the sources.
 use Rattle.std.proofs.Common.{◌≡◌, ◌∙◌, ap, sym, refl, subst, ℕ, zero, suc, ◌+◌, ◌<◌, ◌≤◌, true, false, ⊎_elim, List, [], ◌∷◌, ◌++◌, length, get_or, set, drop, if◌then◌else◌, arith}
 use Rattle.std.specs.List.{All}
-use Rattle.std.proofs.lemmas.Bool.{false≢true, cases_Bool, cases_lt, cond-true, cond-false}
+use Rattle.std.proofs.lemmas.Bool.{cases_Bool, cond-true, cond-false}
 use Rattle.std.proofs.lemmas.List.{append_assoc, get_or-map, map-set, length-map}
 use Rattle.std.proofs.lemmas.List.Elements.{All-get_or, All-map, All-set, All-weaker}
 use Rattle.peg_base.specs.Names.{Names, same_path}
@@ -11,7 +11,6 @@ use Rattle.dir_disk.specs.Calls.{HasFile}
 use Rattle.dir_disk.specs.Keeping.{StandsBut}
 use Rattle.dir_disk.specs.Lent.{Loan, IsNoOutput}
 use Rattle.pairs.specs.Pairs.{Pair, pair_before, pairs_in, pairs_text, sorted_pairs, IsInOrder}
-use Rattle.pairs.proofs.PairLemmas.{pair_order}
 use Rattle.merge.specs.declared.source.Source.{Source}
 use Rattle.merge.specs.Sources.{all_of, left_of, lefts, untaken, IsLeast, IsSource}
 use Rattle.merge.proofs.MergeLemmas.{IsBeforeAll, in_order_rest, length_taken, merged_step, none_left}
@@ -46,51 +45,20 @@ same_at [] at one other inside = absurd (omega arith)
 same_at (s ∷ sources) zero one other inside = refl
 same_at (s ∷ sources) (suc at) one other inside = same_at sources at one other (omega arith)
 
-before_itself : (p : Pair) → pair_before p p ≡ true
-before_itself p = ⊎_elim (λ yes. yes) (λ no. pair_order.total p p no) (cases_Bool (pair_before p p))
-
-module _ (sources : List Source) (at : ℕ) (source : Source) (is : source ≡ get_or sources at source) (inside : at < length sources) (running : source.ended ≡ false) where
-  found : (none : Source) → get_or sources at none ≡ source
-  found none = same_at sources at none source inside ∙ sym is
-
-  itself : (other : ℕ) (none : Source) → other ≡ at → pair_before (get_or sources at none).head (get_or sources other none).head ≡ true
-  itself other none same =
-      ap (λ (k : ℕ). pair_before (get_or sources at none).head (get_or sources k none).head) same ∙ before_itself (get_or sources at none).head
-
-  -- no source before this one has a pair
-  pub least_first : ((other : ℕ) (none : Source) → other < at → (get_or sources other none).ended ≡ true) → IsLeast sources (at + 1) at
-  least_first ended = record {
-    inside = inside;
-    running = λ none. ap (λ (s : Source). s.ended) (found none) ∙ running;
-    first =
-        λ other none below runs.
-        ⊎_elim (λ (early : other < at). absurd (false≢true (sym runs ∙ ended other none early))) (λ (late : at ≤ other). itself other none (omega arith)) (cases_lt other at);
-  }
-
-  -- this one has a lesser pair than the least before it
-  pub least_next : (best : ℕ) (former : Source) → former ≡ get_or sources best former → IsLeast sources at best → pair_before former.head source.head ≡ false → IsLeast sources (at + 1) at
-  least_next best former is_former least fails = record {
-    inside = inside;
-    running = λ none. ap (λ (s : Source). s.ended) (found none) ∙ running;
-    first =
-        λ other none below runs.
-        ⊎_elim (λ (early : other < at). ap (λ (s : Source). pair_before s.head (get_or sources other none).head) (found none) ∙ pair_order.further source.head former.head (get_or sources other none).head (pair_order.total former.head source.head fails) (ap (λ (s : Source). pair_before s.head (get_or sources other none).head) (is_former ∙ same_at sources best former none least.inside) ∙ least.first other none early runs)) (λ (late : at ≤ other). itself other none (omega arith)) (cases_lt other at);
-  }
-
 -- ---- one pair more
 
 -- where all sources have ended no pair is left
-pub all_ended : (state : State) (sources : List Source) → ((other : ℕ) (none : Source) → other < length sources → (get_or sources other none).ended ≡ true) → all_of (lefts state sources) ≡ []
+pub all_ended : (state : State) (sources : List Source) → ((other : ℕ) (none : Source) → 0 ≤ other → other < length sources → (get_or sources other none).ended ≡ true) → all_of (lefts state sources) ≡ []
 all_ended state [] ended = refl
 all_ended state (source ∷ sources) ended =
-    none_left (lefts state (source ∷ sources)) (λ k inside. let long = length-map (source ∷ sources) (left_of state) in get_or-map (left_of state) (source ∷ sources) k source [] (omega arith) ∙ left_ended state (get_or (source ∷ sources) k source) (ended k source (omega arith)))
+    none_left (lefts state (source ∷ sources)) (λ k inside. let long = length-map (source ∷ sources) (left_of state) in get_or-map (left_of state) (source ∷ sources) k source [] (omega arith) ∙ left_ended state (get_or (source ∷ sources) k source) (ended k source (omega arith) (omega arith)))
 
-module _ (sources : List Source) (at : ℕ) (source new : Source) (is : source ≡ get_or sources at source) (least : IsLeast sources (length sources) at) (path : new.path ≡ source.path) where
+module _ (sources : List Source) (at : ℕ) (source new : Source) (is : source ≡ get_or sources at source) (least : IsLeast sources 0 (length sources) at) (path : new.path ≡ source.path) where
   pub lent_more : (lent : List Loan) → All (λ s. IsNoOutput lent s.path) sources → All (λ s. IsNoOutput lent s.path) (set sources at new)
   lent_more lent all =
       All-set (λ s. IsNoOutput lent s.path) sources at new (subst (λ (q : Names). IsNoOutput lent q) (sym (path ∙ ap (λ (s : Source). s.path) is)) (All-get_or (λ s. IsNoOutput lent s.path) sources at source least.inside all)) all
 
-module _ (out : Names) (entry state : State) (sources : List Source) (at : ℕ) (source new : Source) (is : source ≡ get_or sources at source) (least : IsLeast sources (length sources) at) (path : new.path ≡ source.path) (all : All (IsSource out entry) sources) (stands : StandsBut out entry state) (left_now : left_of state new ≡ pairs_in (untaken state source)) where
+module _ (out : Names) (entry state : State) (sources : List Source) (at : ℕ) (source new : Source) (is : source ≡ get_or sources at source) (least : IsLeast sources 0 (length sources) at) (path : new.path ≡ source.path) (all : All (IsSource out entry) sources) (stands : StandsBut out entry state) (left_now : left_of state new ≡ pairs_in (untaken state source)) where
   running : source.ended ≡ false
   running = ap (λ (s : Source). s.ended) is ∙ least.running source
 
@@ -119,7 +87,7 @@ module _ (out : Names) (entry state : State) (sources : List Source) (at : ℕ) 
       let long = length-map sources (left_of entry) in
       let low' : k < length sources = omega arith in
       let found = first_left entry (get_or sources k source) p ps (sym (get_or-map (left_of entry) sources k source [] low') ∙ begins) in
-      ap (λ (q : Pair). pair_before source.head q) (sym found.1) ∙ ap (λ (s : Source). pair_before s.head (get_or sources k source).head) is ∙ least.first k source low' found.0
+      ap (λ (q : Pair). pair_before source.head q) (sym found.1) ∙ ap (λ (s : Source). pair_before s.head (get_or sources k source).head) is ∙ least.first k source (omega arith) low' found.0
 
   pub sources_more : All (IsSource out entry) (set sources at new)
   sources_more =

@@ -3,4 +3,3 @@ pub mod Heads
 pub mod Laws
 pub mod Runs
 pub mod Sources
-pub mod Writing

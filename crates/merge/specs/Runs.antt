@@ -8,7 +8,7 @@ use Rattle.dir_disk.specs.Lent.{Loan, IsFree}
 use Rattle.digit_names.specs.Digits.{digits}
 use Rattle.pairs.specs.Pairs.{Pair, IsPlain, IsInOrder, pairs_in, pairs_text, sorted_pairs}
 use Rattle.merge.specs.Sources.{all_of, bytes_at}
-use Rattle.merge.specs.Writing.{IsVacant}
+use Rattle.pieces.specs.Pieces.{IsVacant}
 
 -- the pairs of files
 abbrev pub lists_at : State → List Names → List (List Pair)

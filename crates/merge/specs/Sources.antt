@@ -1,5 +1,5 @@
 -- Runs that are read from the front, and which of them has the least pair.
-use Rattle.std.specs.Prelude.{◌≡◌, ℕ, ◌<◌, true, false, if◌then◌else◌, List, [], ◌∷◌, ◌++◌, Option, Some, None, drop, length, map, slice_index_or}
+use Rattle.std.specs.Prelude.{◌≡◌, ℕ, ◌+◌, ◌*◌, ◌<◌, ◌≤◌, min, true, false, if◌then◌else◌, List, [], ◌∷◌, ◌++◌, Option, Some, None, drop, length, map, slice_index_or}
 use Rattle.std.specs.List.{flat_map}
 use Rattle.peg_base.specs.Names.{Names, same_path}
 use Rattle.dir_disk.specs.State.{State, bytes_of}
@@ -26,17 +26,25 @@ lefts state sources = map (left_of state) sources
 abbrev pub all_of : List (List Pair) → List Pair
 all_of lists = flat_map (λ pairs. pairs) lists
 
--- the pair of one source may stand before the next pair of each source up to a place
-pub record IsLeast (sources : List Source) (count at : ℕ) : Type 0 where
+-- of the sources from one place up to another, the pair of one may stand before the next pair of each
+pub record IsLeast (sources : List Source) (low high at : ℕ) : Type 0 where
+  pub from : low ≤ at
+  pub below : at < high
   pub inside : at < length sources
   pub running : (none : Source) → (slice_index_or sources at none).ended ≡ false
-  pub first : (other : ℕ) (none : Source) → other < count → (slice_index_or sources other none).ended ≡ false → pair_before (slice_index_or sources at none).head (slice_index_or sources other none).head ≡ true
+  pub first : (other : ℕ) (none : Source) → low ≤ other → other < high → (slice_index_or sources other none).ended ≡ false → pair_before (slice_index_or sources at none).head (slice_index_or sources other none).head ≡ true
 
--- the source with the least pair among the first ones, where one of them has a pair
-abbrev pub IsLeastOf : List Source → ℕ → Option ℕ → Type 0
-IsLeastOf sources count None =
-    (other : ℕ) (none : Source) → other < count → (slice_index_or sources other none).ended ≡ true
-IsLeastOf sources count (Some at) = IsLeast sources count at
+-- the source with the least pair among those from one place up to another, where one of them has a pair
+abbrev pub IsLeastOf : List Source → ℕ → ℕ → Option ℕ → Type 0
+IsLeastOf sources low high None =
+    (other : ℕ) (none : Source) → low ≤ other → other < high → (slice_index_or sources other none).ended ≡ true
+IsLeastOf sources low high (Some at) = IsLeast sources low high at
+
+-- the least source of each four, one group after the other, up to the end
+pub record AreLeaders (sources : List Source) (leaders : List (Option ℕ)) : Type 0 where
+  pub enough : length sources ≤ 4 * length leaders
+  pub few : 4 * length leaders ≤ length sources + 4
+  pub each : (group : ℕ) (none : Option ℕ) → group < length leaders → IsLeastOf sources (4 * group) (min (4 * group + 4) (length sources)) (slice_index_or leaders group none)
 
 -- a run that can be read beside the file that is written
 pub record IsSource (out : Names) (state : State) (source : Source) : Type 0 where

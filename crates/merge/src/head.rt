@@ -1,10 +1,11 @@
-ghost use Rattle.std.specs.Prelude.{◌≡◌, ◌≤◌, [], ◌∷◌, length, IfOk, OnOk};
+ghost use Rattle.std.specs.Prelude.{◌≡◌, [], ◌∷◌, IfOk, OnOk};
 ghost use Rattle.std.specs.Bool.{OnTrue, OnFalse};
 ghost use Rattle.peg_text.specs.Records.{HasNoLf};
 ghost use Rattle.pairs.specs.Pairs.{pair_before, pair_of, pairs_in};
-ghost use Rattle.merge.specs.Heads.{TakesFirstPair, pair_at};
+ghost use Rattle.merge.specs.Heads.{HasKey, TakesFirstPair, pair_at};
 
-use peg_text::{LineBuf, NoMemory, split_pair};
+use pairs::measured_key;
+use peg_text::{LineBuf, NoMemory};
 use std::alloc::Global;
 use std::cmp::Ordering;
 use std::marker::Model;
@@ -15,26 +16,27 @@ pub(crate) struct Head {
     line: Vec<u8>,
     /// How many bytes its key has.
     key: usize,
+    /// The prefix of its key.
+    prefix: u64,
 }
 
 impl Model for Head {
-    ghost use Rattle.std.specs.Prelude.{◌≤◌, length};
     ghost use Rattle.pairs.specs.Pairs.{Pair};
-    ghost use Rattle.merge.specs.Heads.{pair_at};
+    ghost use Rattle.merge.specs.Heads.{HasKey, pair_at};
 
     ghost Value = { Pair };
 
     ghost view = { λ head. pair_at head.line.items head.key };
 
-    ghost invariant = { λ head. head.key ≤ length head.line.items };
+    ghost invariant = { λ head. HasKey head.line.items head.key head.prefix };
 }
 
-/// How many bytes the key of a line has.
-fn key_length(line: &[u8]) -> usize
-    ensures pair { pair_at line.now result ≡ pair_of line.now }
-    ensures inside { result ≤ length line.now }
+/// How many bytes the key of a line has, and its prefix.
+fn measured(line: &[u8]) -> (usize, u64)
+    ensures pair { pair_at line.now result.0 ≡ pair_of line.now }
+    ensures has { HasKey line.now result.0 result.1 }
 {
-    split_pair(line).0.len()
+    measured_key(line)
 }
 
 impl Head {
@@ -43,6 +45,7 @@ impl Head {
         Head {
             line: Vec::new(alloc),
             key: 0,
+            prefix: 0,
         }
     }
 
@@ -63,6 +66,17 @@ impl Head {
     pub fn comes_before(&self, other: &Head) -> bool
         ensures { result ≡ pair_before self.now other.now }
     {
+        match self.prefix.cmp(&other.prefix) {
+            Ordering::Less => true,
+            Ordering::Equal => self.stands_before(other),
+            Ordering::Greater => false,
+        }
+    }
+
+    /// The same, without a look at the prefixes.
+    fn stands_before(&self, other: &Head) -> bool
+        ensures { result ≡ pair_before self.now other.now }
+    {
         match self.key().cmp(other.key()) {
             Ordering::Less => true,
             Ordering::Equal => self.value().cmp(other.value()).is_le(),
@@ -79,7 +93,9 @@ impl Head {
         if !held.next(alloc, &mut self.line)? {
             return Ok(false);
         }
-        self.key = key_length(&self.line);
+        let (key, prefix) = measured(&self.line);
+        self.key = key;
+        self.prefix = prefix;
         Ok(true)
     }
 
@@ -93,7 +109,9 @@ impl Head {
         if !held.last(alloc, &mut self.line)? {
             return Ok(false);
         }
-        self.key = key_length(&self.line);
+        let (key, prefix) = measured(&self.line);
+        self.key = key;
+        self.prefix = prefix;
         Ok(true)
     }
 }

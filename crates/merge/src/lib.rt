@@ -4,10 +4,10 @@
 mod fault;
 mod head;
 pub mod laws;
+mod leaders;
 mod merging;
 mod passes;
 mod source;
-mod writing;
 
 pub use fault::MergeFault;
 pub use passes::merge_runs;

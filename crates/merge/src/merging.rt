@@ -9,44 +9,18 @@ ghost use Rattle.dir_disk.specs.Moments.{Both, Through, files};
 ghost use Rattle.dir_disk.specs.State.{StandsOutside};
 ghost use Rattle.pairs.specs.Pairs.{pairs_in, pairs_text, sorted_pairs};
 ghost use Rattle.merge.specs.Runs.{IsRun, lists_at, merged_at};
-ghost use Rattle.merge.specs.Sources.{IsLeastOf, IsSource, all_of, left_of, lefts, untaken};
-ghost use Rattle.merge.specs.Writing.{IsVacant, gathered};
+ghost use Rattle.merge.specs.Sources.{IsSource, all_of, left_of, lefts, untaken};
+ghost use Rattle.pieces.specs.Pieces.{IsVacant};
+ghost use Rattle.pieces.specs.Pieces.{gathered};
 
 use crate::fault::MergeFault;
+use crate::leaders::{first_of, leaders_of, renew};
 use crate::source::Source;
-use crate::writing::send_piece;
 use dir_disk::Dir;
 use peg_base::Path;
 use peg_text::{NoMemory, write_pair};
+use pieces::send_piece;
 use std::alloc::Global;
-
-/// Of the source that is the least of those before the place `at`, and the one at this place, the one with the lesser
-/// pair.
-fn lesser(sources: &[Source], least: Option<usize>, at: usize) -> Option<usize>
-    requires inside { at < length sources.now }
-    requires least { IsLeastOf sources.now at least }
-    ensures { IsLeastOf sources.now (at + 1) result }
-{
-    if sources[at].ended {
-        return least;
-    }
-    match least {
-        None => Some(at),
-        Some(other) if sources[other].head.comes_before(&sources[at].head) => least,
-        Some(_) => Some(at),
-    }
-}
-
-/// The source with the least pair, where one of them has a pair.
-fn least(sources: &[Source]) -> Option<usize>
-    ensures { IsLeastOf sources.now (length sources.now) result }
-{
-    let mut least = None;
-    for at in 0..sources.len() {
-        least = lesser(sources, least, at);
-    }
-    least
-}
 
 /// Writes the next pair of a source, and goes on to the one after it.
 fn give<D: Dir>(
@@ -103,12 +77,14 @@ fn give_all<D: Dir>(
     ensures cause { HasCause MergeFault.Disk (D.faults dir.old) (D.faults dir.new) result }
 {
     let mut piece = Vec::new(alloc);
+    let mut leaders = leaders_of(alloc, sources)?;
     for count in 0..u64::MAX {
-        let Some(at) = least(sources) else {
+        let Some(at) = first_of(sources, &leaders) else {
             dir.append(alloc, out, &piece)?;
             return Ok(count);
         };
         give(alloc, dir, &mut sources[at], out, &mut piece)?;
+        renew(sources, &mut leaders, at);
     }
     Err(MergeFault::NoMemory)
 }

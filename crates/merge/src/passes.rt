@@ -8,7 +8,7 @@ ghost use Rattle.dir_disk.specs.State.{StandsOutside};
 ghost use Rattle.pairs.specs.Pairs.{pairs_text};
 ghost use Rattle.merge.specs.Runs.{ArePassesFree, ArePassesVacant, HasPasses, IsAfterPasses, IsRun, StandsBesideMerge, StandsBesidePasses, lists_at, merge_of, merged_at, passes, queue_of, ten_merged};
 ghost use Rattle.merge.specs.Sources.{all_of};
-ghost use Rattle.merge.specs.Writing.{IsVacant};
+ghost use Rattle.pieces.specs.Pieces.{IsVacant};
 
 use crate::fault::MergeFault;
 use crate::merging::merge_files;

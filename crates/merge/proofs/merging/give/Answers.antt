@@ -4,9 +4,10 @@ use Rattle.dir_disk.specs.Calls.{CanAppend}
 use Rattle.dir_disk.specs.State.{State}
 use Rattle.dir_disk.specs.Moments.{Told, files}
 use Rattle.dir_disk.proofs.Keeping.{stands_then}
-use Rattle.merge.specs.Writing.{gathered}
+use Rattle.pieces.specs.Pieces.{gathered}
 use Rattle.merge.proofs.SourceLemmas.{same_state}
-use Rattle.merge.proofs.WriteLemmas.{on_ok, gathered_more, same_stands}
+use Rattle.pieces.proofs.PieceLemmas.{gathered_more}
+use Rattle.merge.proofs.WriteLemmas.{on_ok, same_stands}
 use Rattle.merge.proofs.merging.give.Goals as goal
 
 pub returns-clause-can : goal.returns-clause-can
