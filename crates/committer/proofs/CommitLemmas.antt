@@ -35,7 +35,7 @@ pub can_commit_task : (folder : Names) (attempt : Attempt) (s : State) → HasFi
 can_commit_task folder attempt s output short empty is_open =
     let attempt_text = attempt_name attempt.task.phase attempt.task.task attempt.number in
     let task_text = task_name attempt.task.phase attempt.task.task in
-    let differ : attempt_text ≢ task_text = attempt_not_task attempt.task.phase attempt.task.task attempt.number in
+    let differ : attempt_text ≢ task_text = attempt_not_task attempt.task.phase attempt.task.phase attempt.task.task attempt.task.task attempt.number in
     record {
       there = (output_of folder attempt, under-append (attempt_of folder attempt) (output_name attempt.task.phase attempt.task.task ∷ []), output);
       empty = empty;

@@ -5,9 +5,10 @@ use Rattle.peg_base.specs.Names.{Names, same_path}
 use Rattle.peg_base.proofs.Under.{same_path-refl, same_path-true}
 use Rattle.dir_disk.specs.State.{Content, Allows, Held, State, Image, Fits, IsSound}
 use Rattle.dir_disk.proofs.Steps.{settled_only}
-use Rattle.committer.specs.Paths.{digits, success_of}
+use Rattle.digit_names.specs.Digits.{digits}
+use Rattle.committer.specs.Paths.{success_of, part_name, task_name, attempt_name, input_name}
 use Rattle.committer.specs.Folders.{fixed}
-use Rattle.committer.specs.Laws.{UnmarkedIsWholeInNone, SealedIsWholeInEach, CommittedIsWholeInEach, PartsAreApart, NumbersHaveTheirWidth}
+use Rattle.committer.specs.Laws.{UnmarkedIsWholeInNone, SealedIsWholeInEach, CommittedIsWholeInEach, PartsAreApart, NamesByExample}
 use Rattle.committer.proofs.FolderLemmas.{some_is_there}
 use Rattle.committer.proofs.MoveLemmas.{parts_apart, task_parts_apart}
 
@@ -57,6 +58,6 @@ pub parts_are_apart : PartsAreApart
 parts_are_apart folder one other path small too differ =
     (parts_apart folder one other path small too differ, task_parts_apart folder one other path small too differ)
 
-pub numbers_have_their_width : NumbersHaveTheirWidth
-unfolding digits
-numbers_have_their_width = (refl, refl, refl)
+pub names_by_example : NamesByExample
+unfolding digits part_name task_name attempt_name input_name
+names_by_example = (refl, refl, refl, refl, refl)

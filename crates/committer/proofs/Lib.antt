@@ -4,4 +4,5 @@ pub mod JobLemmas
 pub mod LawLemmas
 pub mod MoveLemmas
 pub mod NamesApart
+pub mod PathsApart
 pub mod SealingLemmas

@@ -40,7 +40,7 @@ task_below folder k q below =
 
 pub task_parts_apart : (folder : Names) (j k : ℕ) (q : Names) → j < 100000 → k < 100000 → j ≢ k → under (task_part_of folder j) q ≡ true → under (task_part_of folder k) q ≡ false
 task_parts_apart folder j k q small other differ below =
-    let apart : under (task_of folder Reduce k) q ≡ false = children_differ (temporary_of folder) (task_name Reduce j) (task_name Reduce k) [] [] q (λ same. differ (tasks_differ j k (omega arith) (omega arith) same)) (task_part_below folder j q below) in
+    let apart : under (task_of folder Reduce k) q ≡ false = children_differ (temporary_of folder) (task_name Reduce j) (task_name Reduce k) [] [] q (λ same. differ (tasks_differ Reduce j k (omega arith) (omega arith) same)) (task_part_below folder j q below) in
     not_true (under (task_part_of folder k) q) (λ deeper. false≢true (sym apart ∙ task_part_below folder k q deeper))
 
 pub part_outside : (folder : Names) (k : ℕ) (q : Names) → under (part_of folder k) q ≡ true → under (temporary_of folder) q ≡ false

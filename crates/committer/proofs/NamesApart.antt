@@ -1,143 +1,168 @@
 -- The names within a job's folder are names, and differ.
-use Rattle.std.proofs.Common.{◌≡◌, ◌≢◌, ℕ, zero, suc, ◌+◌, ◌-◌, ◌/◌, ◌%◌, ◌^◌, ◌<◌, ◌≤◌, true, List, [], ◌∷◌, ◌++◌, length, get_or, codes, refl, sym, ◌∙◌, ap, arith, length-append}
-use Rattle.std.specs.List.{list_all}
-use Rattle.std.proofs.lemmas.Bool.{and_from}
-use Rattle.std.proofs.lemmas.Bool.Decides.{nat_tests}
-use Rattle.std.proofs.lemmas.List.Folds.{list_all-append}
-use Rattle.std.proofs.lemmas.List.Sums.{AllPass-from_list_all}
+use Rattle.std.proofs.Common.{◌≡◌, ◌≢◌, ℕ, ◌+◌, ◌%◌, ◌<◌, true, List, [], ◌∷◌, ◌++◌, length, get_or, codes, refl, ap, arith, length-append}
+use Rattle.std.proofs.lemmas.List.{append_cancel_left, append_cancel_right, same_from_push}
 use Rattle.peg_base.specs.declared.tasks.Phase.{Phase}
 use Rattle.peg_base.specs.declared.tasks.Phase.TheVariants.{Map, Reduce}
-use Rattle.peg_base.specs.NameText.{is_name_byte, IsName}
-use Rattle.committer.specs.Paths.{digits, success_name, temporary_name, part_name, task_front, task_name, attempt_front, attempt_name}
-
--- ---- texts of digits
-
-pub length-digits : (width number : ℕ) → length (digits width number) ≡ width
-unfolding digits
-length-digits zero number = refl
-length-digits (suc width) number =
-    let fewer = length-digits width (number / 10) in
-    omega (arith, length-append (digits width (number / 10)) ((48 + number % 10) ∷ []))
-
-is_digit_byte : (b : ℕ) → 48 ≤ b → b < 58 → is_name_byte b ≡ true
-is_digit_byte b low high = grind (arith, nat_tests)
-
-pub digits_pass : (width number : ℕ) → list_all is_name_byte (digits width number) ≡ true
-unfolding digits
-digits_pass zero number = refl
-digits_pass (suc width) number =
-    list_all-append is_name_byte (digits width (number / 10)) ((48 + number % 10) ∷ []) ∙ and_from _ _ (digits_pass width (number / 10)) (and_from _ _ (is_digit_byte (48 + number % 10) (omega arith) (omega arith)) refl)
-
--- two lists that end alike
-ends : (xs ys : List ℕ) (x y : ℕ) → length xs ≡ length ys → xs ++ x ∷ [] ≡ ys ++ y ∷ [] → (xs ≡ ys) × (x ≡ y)
-ends [] [] x y same is = (refl, cc)
-ends [] (b ∷ ys) x y same is = absurd (omega arith)
-ends (a ∷ xs) [] x y same is = absurd (omega arith)
-ends (a ∷ xs) (b ∷ ys) x y same is =
-    let first : a ≡ b = cc in
-    let tail : xs ++ x ∷ [] ≡ ys ++ y ∷ [] = cc in
-    let rest = ends xs ys x y (omega arith) tail in
-    (cc, rest.1)
-
-pub digits_differ : (width m n : ℕ) → m < 10 ^ width → n < 10 ^ width → digits width m ≡ digits width n → m ≡ n
-unfolding digits
-digits_differ zero m n small other is = omega arith
-digits_differ (suc width) m n small other is =
-    let shorter = ends (digits width (m / 10)) (digits width (n / 10)) (48 + m % 10) (48 + n % 10) (length-digits width (m / 10) ∙ sym (length-digits width (n / 10))) is in
-    let last : 48 + m % 10 ≡ 48 + n % 10 = shorter.1 in
-    let front : m / 10 ≡ n / 10 = digits_differ width (m / 10) (n / 10) (omega arith) (omega arith) shorter.0 in
-    omega arith
+use Rattle.peg_base.specs.NameText.{IsName}
+use Rattle.digit_names.specs.Digits.{digits, begins_name}
+use Rattle.digit_names.proofs.DigitLemmas.{length-digits, digits_pass, digits_tell_numbers, begins_name-append, name_from_front}
+use Rattle.committer.specs.Paths.{success_name, temporary_name, part_name, task_front, task_name, attempt_front, attempt_name, input_front, input_name, shuffle_name}
 
 -- ---- names
 
--- letters and other bytes of a name, of which the first is no dot
-pub name_from_bytes : (text : List ℕ) → 1 ≤ length text → length text ≤ 64 → list_all is_name_byte text ≡ true → (get_or text 0 0 ≡ 46 → ⊥) → IsName text
-name_from_bytes text some short pass first =
-    record {
-      some = some;
-      short = short;
-      bytes = AllPass-from_list_all is_name_byte text pass;
-      not_itself = λ is. first (ap (λ (t : List ℕ). get_or t 0 0) is);
-      not_above = λ is. first (ap (λ (t : List ℕ). get_or t 0 0) is);
-    }
+pub task_front_begins_name : (phase : Phase) → begins_name (task_front phase) ≡ true
+task_front_begins_name Map = refl
+task_front_begins_name Reduce = refl
 
--- such bytes and then a number
-pub name_from_front : (front : List ℕ) (width number : ℕ) → 1 ≤ length front → length front + width ≤ 64 → list_all is_name_byte front ≡ true → (get_or (front ++ digits width number) 0 0 ≡ 46 → ⊥) → IsName (front ++ digits width number)
-name_from_front front width number some short pass first =
-    let long = length-append front (digits width number) in
-    let digits_long = length-digits width number in
-    name_from_bytes (front ++ digits width number) (omega arith) (omega arith) (list_all-append is_name_byte front (digits width number) ∙ and_from _ _ pass (digits_pass width number)) first
+pub length-task_front : (phase : Phase) → length (task_front phase) ≡ 7
+length-task_front Map = refl
+length-task_front Reduce = refl
 
-pub part_is_name : (part : ℕ) → IsName (codes "part-" ++ digits 5 part)
-part_is_name part =
-    name_from_front (codes "part-") 5 part (omega arith) (omega arith) refl (λ is. absurd (omega arith))
+-- what stands before the number of the attempt
+abbrev pub attempt_text : Phase → ℕ → List ℕ
+attempt_text phase task = attempt_front phase ++ digits 6 task ++ 45 ∷ []
 
-pub digits_last : (width number : ℕ) → 0 < width → digits width number ≡ digits (width - 1) (number / 10) ++ (48 + number % 10) ∷ []
-unfolding digits
-digits_last zero number some = absurd (omega arith)
-digits_last (suc width) number some =
-    let same : width ≡ suc width - 1 = omega arith in
-    ap (λ (w : ℕ). digits w (number / 10) ++ (48 + number % 10) ∷ []) same
+attempt_front_begins_name : (phase : Phase) → begins_name (attempt_front phase) ≡ true
+attempt_front_begins_name Map = refl
+attempt_front_begins_name Reduce = refl
 
-pub digits_none : (width number : ℕ) → width ≡ 0 → digits width number ≡ []
-unfolding digits
-digits_none zero number none = refl
-digits_none (suc width) number some = absurd (omega arith)
+length-attempt_front : (phase : Phase) → length (attempt_front phase) ≡ 10
+length-attempt_front Map = refl
+length-attempt_front Reduce = refl
 
--- ---- names differ
+pub attempt_text_begins_name : (phase : Phase) (task : ℕ) → begins_name (attempt_text phase task) ≡ true
+attempt_text_begins_name phase task =
+    begins_name-append (attempt_front phase ++ digits 6 task) (45 ∷ []) (begins_name-append (attempt_front phase) (digits 6 task) (attempt_front_begins_name phase) (digits_pass 6 task)) refl
+
+pub length-attempt_text : (phase : Phase) (task : ℕ) → length (attempt_text phase task) ≡ 17
+length-attempt_text phase task =
+    let one = length-append (attempt_front phase) (digits 6 task) in
+    let two = length-append (attempt_front phase ++ digits 6 task) (45 ∷ []) in
+    omega (arith, length-attempt_front phase, length-digits 6 task)
+
+input_front_begins_name : (phase : Phase) → begins_name (input_front phase) ≡ true
+input_front_begins_name Map = refl
+input_front_begins_name Reduce = refl
+
+length-input_front : (phase : Phase) → length (input_front phase) ≡ 2
+length-input_front Map = refl
+length-input_front Reduce = refl
+
+pub input_is_name : (phase : Phase) (task : ℕ) → IsName (input_front phase ++ digits 6 task ++ codes ".in")
+input_is_name phase task =
+    let front = begins_name-append (input_front phase) (digits 6 task) (input_front_begins_name phase) (digits_pass 6 task) in
+    let long = length-append (input_front phase) (digits 6 task) in
+    name_from_front (input_front phase ++ digits 6 task) (codes ".in") front refl (omega (arith, length-input_front phase, length-digits 6 task))
+
+-- ---- names of different kinds differ in their first or second byte
+
+differ_at : (place : ℕ) (one other : List ℕ) → get_or one place 0 ≢ get_or other place 0 → one ≢ other
+differ_at place one other differ same =
+    differ (ap (λ (text : List ℕ). get_or text place 0) same)
 
 pub part_not_success : (part : ℕ) → part_name part ≢ success_name
 unfolding part_name success_name
-part_not_success part same =
-    let first : 112 ≡ 95 = ap (λ (t : List ℕ). get_or t 0 0) same in absurd (omega (arith, first))
-
-pub task_is_name : (phase : Phase) (task : ℕ) → IsName (task_front phase ++ digits 6 task)
-task_is_name Map task =
-    name_from_front (codes "task-m-") 6 task (omega arith) (omega arith) refl (λ is. absurd (omega arith))
-task_is_name Reduce task =
-    name_from_front (codes "task-r-") 6 task (omega arith) (omega arith) refl (λ is. absurd (omega arith))
-
-attempt_text : (front : List ℕ) (task number : ℕ) → length front ≡ 10 → list_all is_name_byte front ≡ true → (get_or (front ++ digits 6 task ++ 45 ∷ [] ++ digits 1 number) 0 0 ≡ 46 → ⊥) → IsName (front ++ digits 6 task ++ 45 ∷ [] ++ digits 1 number)
-attempt_text front task number long pass first =
-    let one = length-append front (digits 6 task) in
-    let two = length-append (front ++ digits 6 task) (45 ∷ []) in
-    let three = length-append (front ++ digits 6 task ++ 45 ∷ []) (digits 1 number) in
-    let six = length-digits 6 task in
-    let last = length-digits 1 number in
-    let pass_one : list_all is_name_byte (front ++ digits 6 task) ≡ true = list_all-append is_name_byte front (digits 6 task) ∙ and_from _ _ pass (digits_pass 6 task) in
-    let pass_two : list_all is_name_byte (front ++ digits 6 task ++ 45 ∷ []) ≡ true = list_all-append is_name_byte (front ++ digits 6 task) (45 ∷ []) ∙ and_from _ _ pass_one refl in
-    let pass_three : list_all is_name_byte (front ++ digits 6 task ++ 45 ∷ [] ++ digits 1 number) ≡ true = list_all-append is_name_byte (front ++ digits 6 task ++ 45 ∷ []) (digits 1 number) ∙ and_from _ _ pass_two (digits_pass 1 number) in
-    name_from_bytes (front ++ digits 6 task ++ 45 ∷ [] ++ digits 1 number) (omega arith) (omega arith) pass_three first
-
-pub attempt_is_name : (phase : Phase) (task number : ℕ) → IsName (attempt_front phase ++ digits 6 task ++ 45 ∷ [] ++ digits 1 number)
-attempt_is_name Map task number =
-    attempt_text (codes "attempt-m-") task number refl refl (λ is. absurd (omega arith))
-attempt_is_name Reduce task number =
-    attempt_text (codes "attempt-r-") task number refl refl (λ is. absurd (omega arith))
+part_not_success part =
+    differ_at 0 (codes "part-" ++ digits 5 part) (codes "_SUCCESS") (omega arith)
 
 pub part_not_temporary : (part : ℕ) → part_name part ≢ temporary_name
 unfolding part_name temporary_name
-part_not_temporary part same =
-    let first : 112 ≡ 95 = ap (λ (t : List ℕ). get_or t 0 0) same in absurd (omega (arith, first))
+part_not_temporary part =
+    differ_at 0 (codes "part-" ++ digits 5 part) (codes "_temporary") (omega arith)
 
 pub success_not_temporary : success_name ≢ temporary_name
 unfolding success_name temporary_name
-success_not_temporary same =
-    let second : 83 ≡ 116 = ap (λ (t : List ℕ). get_or t 1 0) same in absurd (omega (arith, second))
+success_not_temporary = differ_at 1 (codes "_SUCCESS") (codes "_temporary") (omega arith)
+
+attempt_begins : (phase : Phase) (task number : ℕ) → get_or (attempt_name phase task number) 0 0 ≡ 97
+unfolding attempt_name
+attempt_begins Map task number = refl
+attempt_begins Reduce task number = refl
+
+task_begins : (phase : Phase) (task : ℕ) → get_or (task_name phase task) 0 0 ≡ 116
+unfolding task_name
+task_begins Map task = refl
+task_begins Reduce task = refl
+
+abbrev input_letter : Phase → ℕ
+input_letter Map = 109
+input_letter Reduce = 114
+
+input_begins : (phase : Phase) (task : ℕ) → get_or (input_name phase task) 0 0 ≡ input_letter phase
+unfolding input_name
+input_begins Map task = refl
+input_begins Reduce task = refl
+
+input_letters : (phase : Phase) → (97 < input_letter phase) × (input_letter phase < 115)
+input_letters Map = (omega arith, omega arith)
+input_letters Reduce = (omega arith, omega arith)
+
+shuffle_begins : get_or shuffle_name 0 0 ≡ 115
+unfolding shuffle_name
+shuffle_begins = refl
+
+pub attempt_not_task : (phase kind : Phase) (task other number : ℕ) → attempt_name phase task number ≢ task_name kind other
+attempt_not_task phase kind task other number =
+    differ_at 0 (attempt_name phase task number) (task_name kind other) (omega (arith, attempt_begins phase task number, task_begins kind other))
+
+pub attempt_not_input : (phase kind : Phase) (task other number : ℕ) → attempt_name phase task number ≢ input_name kind other
+attempt_not_input phase kind task other number =
+    differ_at 0 (attempt_name phase task number) (input_name kind other) (omega (arith, attempt_begins phase task number, input_begins kind other, input_letters kind))
+
+pub attempt_not_shuffle : (phase : Phase) (task number : ℕ) → attempt_name phase task number ≢ shuffle_name
+attempt_not_shuffle phase task number =
+    differ_at 0 (attempt_name phase task number) shuffle_name (omega (arith, attempt_begins phase task number, shuffle_begins))
+
+pub task_not_input : (phase kind : Phase) (task other : ℕ) → task_name phase task ≢ input_name kind other
+task_not_input phase kind task other =
+    differ_at 0 (task_name phase task) (input_name kind other) (omega (arith, task_begins phase task, input_begins kind other, input_letters kind))
+
+pub task_not_shuffle : (phase : Phase) (task : ℕ) → task_name phase task ≢ shuffle_name
+task_not_shuffle phase task =
+    differ_at 0 (task_name phase task) shuffle_name (omega (arith, task_begins phase task, shuffle_begins))
+
+pub input_not_shuffle : (phase : Phase) (task : ℕ) → input_name phase task ≢ shuffle_name
+input_not_shuffle phase task =
+    differ_at 0 (input_name phase task) shuffle_name (omega (arith, input_begins phase task, input_letters phase, shuffle_begins))
+
+-- ---- names of one kind tell their numbers
 
 pub parts_differ : (m n : ℕ) → m < 100000 → n < 100000 → part_name m ≡ part_name n → m ≡ n
 unfolding part_name
 parts_differ m n small other same =
-    let texts : digits 5 m ≡ digits 5 n = cc in digits_differ 5 m n small other texts
+    digits_tell_numbers 5 m n small other (append_cancel_left (codes "part-") (digits 5 m) (digits 5 n) same)
 
-pub tasks_differ : (m n : ℕ) → m < 1000000 → n < 1000000 → task_name Reduce m ≡ task_name Reduce n → m ≡ n
+pub tasks_differ : (phase : Phase) (m n : ℕ) → m < 1000000 → n < 1000000 → task_name phase m ≡ task_name phase n → m ≡ n
 unfolding task_name
-tasks_differ m n small other same =
-    let texts : digits 6 m ≡ digits 6 n = cc in digits_differ 6 m n small other texts
+tasks_differ phase m n small other same =
+    digits_tell_numbers 6 m n small other (append_cancel_left (task_front phase) (digits 6 m) (digits 6 n) same)
 
-pub attempt_not_task : (phase : Phase) (task number : ℕ) → attempt_name phase task number ≢ task_name phase task
-unfolding attempt_name task_name
-attempt_not_task Map task number same =
-    let first : 97 ≡ 116 = ap (λ (t : List ℕ). get_or t 0 0) same in absurd (omega (arith, first))
-attempt_not_task Reduce task number same =
-    let first : 97 ≡ 116 = ap (λ (t : List ℕ). get_or t 0 0) same in absurd (omega (arith, first))
+pub attempts_differ : (phase : Phase) (m n a b : ℕ) → m < 1000000 → n < 1000000 → a < 10 → b < 10 → attempt_name phase m a ≡ attempt_name phase n b → (m ≡ n) × (a ≡ b)
+unfolding attempt_name digits
+attempts_differ phase m n a b small other few less same =
+    let numbers = same_from_push (attempt_text phase m) (attempt_text phase n) (48 + a % 10) (48 + b % 10) same in
+    let dashes = same_from_push (attempt_front phase ++ digits 6 m) (attempt_front phase ++ digits 6 n) 45 45 numbers.0 in
+    let last : 48 + a % 10 ≡ 48 + b % 10 = numbers.1 in
+    (digits_tell_numbers 6 m n small other (append_cancel_left (attempt_front phase) (digits 6 m) (digits 6 n) dashes.0), omega arith)
+
+pub inputs_differ : (phase : Phase) (m n : ℕ) → m < 1000000 → n < 1000000 → input_name phase m ≡ input_name phase n → m ≡ n
+unfolding input_name
+inputs_differ phase m n small other same =
+    let fronts = append_cancel_right (input_front phase ++ digits 6 m) (input_front phase ++ digits 6 n) (codes ".in") same in
+    digits_tell_numbers 6 m n small other (append_cancel_left (input_front phase) (digits 6 m) (digits 6 n) fronts)
+
+-- ---- phases have names of their own
+
+pub task_phases_differ : (m n : ℕ) → task_name Map m ≢ task_name Reduce n
+unfolding task_name
+task_phases_differ m n =
+    differ_at 5 (task_front Map ++ digits 6 m) (task_front Reduce ++ digits 6 n) (omega arith)
+
+pub attempt_phases_differ : (m n a b : ℕ) → attempt_name Map m a ≢ attempt_name Reduce n b
+unfolding attempt_name
+attempt_phases_differ m n a b =
+    differ_at 8 (attempt_text Map m ++ digits 1 a) (attempt_text Reduce n ++ digits 1 b) (omega arith)
+
+pub input_phases_differ : (m n : ℕ) → input_name Map m ≢ input_name Reduce n
+input_phases_differ m n =
+    differ_at 0 (input_name Map m) (input_name Reduce n) (omega (arith, input_begins Map m, input_begins Reduce n))

@@ -1,8 +1,9 @@
 -- What folders and their paths are good for, as laws.
 use Rattle.std.specs.Prelude.{◌≡◌, ◌≢◌, ℕ, ◌<◌, true, false, ◌↔◌, codes}
+use Rattle.peg_base.specs.declared.tasks.Phase.TheVariants.{Map, Reduce}
 use Rattle.peg_base.specs.Names.{Names, under, same_path}
 use Rattle.dir_disk.specs.State.{State, Image, Fits, IsSound}
-use Rattle.committer.specs.Paths.{digits, success_of, part_of, task_part_of}
+use Rattle.committer.specs.Paths.{success_of, part_of, part_name, task_name, task_part_of, attempt_name, input_name}
 use Rattle.committer.specs.Folders.{IsWhole, IsNotWhole, IsUnmarked, IsSealed}
 use Rattle.committer.specs.Commits.{HasParts, IsCommitted}
 
@@ -27,6 +28,6 @@ PartsAreApart =
     (folder : Names) (one other : ℕ) (path : Names) → one < 100000 → other < 100000 → one ≢ other → (under (part_of folder one) path ≡ true → under (part_of folder other) path ≡ false) × (under (task_part_of folder one) path ≡ true → under (task_part_of folder other) path ≡ false)
 
 -- numbers are filled with zeros
-abbrev pub NumbersHaveTheirWidth : Type 0
-NumbersHaveTheirWidth =
-    (digits 5 0 ≡ codes "00000") × (digits 5 63 ≡ codes "00063") × (digits 6 524287 ≡ codes "524287")
+abbrev pub NamesByExample : Type 0
+NamesByExample =
+    (part_name 63 ≡ codes "part-00063") × (task_name Map 524287 ≡ codes "task-m-524287") × (attempt_name Reduce 7 4 ≡ codes "attempt-r-000007-4") × (input_name Map 0 ≡ codes "m-000000.in") × (input_name Reduce 63 ≡ codes "r-000063.in")

@@ -1,14 +1,10 @@
 -- What the files and folders within a job's folder are called.
-use Rattle.std.specs.Prelude.{ℕ, zero, suc, ◌+◌, ◌/◌, ◌%◌, List, [], ◌∷◌, ◌++◌, codes}
+use Rattle.std.specs.Prelude.{ℕ, List, [], ◌∷◌, ◌++◌, codes}
 use Rattle.peg_base.specs.Names.{Names}
 use Rattle.peg_base.specs.declared.tasks.Phase.{Phase}
 use Rattle.peg_base.specs.declared.tasks.Phase.TheVariants.{Map, Reduce}
 use Rattle.peg_base.specs.declared.tasks.Attempt.{Attempt}
-
--- the last `width` decimal digits of a number
-unfoldable pub digits : ℕ → ℕ → List ℕ
-digits zero number = []
-digits (suc width) number = digits width (number / 10) ++ (48 + number % 10) ∷ []
+use Rattle.digit_names.specs.Digits.{digits}
 
 -- ---- names
 
@@ -37,6 +33,18 @@ attempt_front Reduce = codes "attempt-r-"
 -- the folder of an attempt
 unfoldable pub attempt_name : Phase → ℕ → ℕ → List ℕ
 attempt_name phase task number = attempt_front phase ++ digits 6 task ++ 45 ∷ [] ++ digits 1 number
+
+abbrev pub input_front : Phase → List ℕ
+input_front Map = codes "m-"
+input_front Reduce = codes "r-"
+
+-- the file that the children of a task read
+unfoldable pub input_name : Phase → ℕ → List ℕ
+input_name phase task = input_front phase ++ digits 6 task ++ codes ".in"
+
+-- where map outputs become reduce inputs
+unfoldable pub shuffle_name : List ℕ
+shuffle_name = codes "shuffle"
 
 -- what a task's output is called: a reduce task makes the part of its own number
 abbrev pub output_name : Phase → ℕ → List ℕ
@@ -85,3 +93,10 @@ output_of folder attempt =
 abbrev pub committed_output_of : Names → Attempt → Names
 committed_output_of folder attempt =
     task_output_of folder attempt.task.phase attempt.task.task
+
+abbrev pub task_input_of : Names → Phase → ℕ → Names
+task_input_of folder phase task = temporary_of folder ++ input_name phase task ∷ []
+
+-- the folder of the sorted runs
+abbrev pub shuffle_of : Names → Names
+shuffle_of folder = temporary_of folder ++ shuffle_name ∷ []

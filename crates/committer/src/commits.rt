@@ -1,10 +1,11 @@
-ghost use Rattle.std.specs.Prelude.{◌≡◌, ◌<◌, ◌≤◌, length, OnOk};
+ghost use Rattle.std.specs.Prelude.{◌≡◌, ◌+◌, ◌<◌, ◌≤◌, length, OnOk};
 ghost use Rattle.dir_disk.specs.Causes.{HasCause};
 ghost use Rattle.dir_disk.specs.State.{after_move};
-ghost use Rattle.dir_disk.specs.Moments.{Both, Through, files};
+ghost use Rattle.dir_disk.specs.Moments.{Both, Through, clock, files};
 ghost use Rattle.dir_disk.specs.Calls.{HasFile, IsOpen, CanMove};
 ghost use Rattle.dir_disk.specs.Lent.{IsFree};
 ghost use Rattle.committer.specs.Paths.{part_of, task_part_of, attempt_of, output_of, committed_of, committed_output_of};
+ghost use Rattle.committer.specs.Faults.{calls_of};
 ghost use Rattle.committer.specs.Commits.{HasNoFile, HasShortPaths, StandsBeside, CanCommit, Commits, IsCommitted, IsUnsealed, IsMovedUpTo};
 
 use crate::fault::CommitFault;
@@ -25,6 +26,7 @@ fn move_all<D: Dir>(alloc: Global, dir: &mut D, from: &Path, to: &Path) -> Resul
         → Through (Both (StandsBeside from.now to.now (files (D.told dir.old)))) (D.told dir.old) (D.told dir.new) }
     ensures moved { D.tells
         → OnOk result (files (D.told dir.new) ≡ after_move from.now to.now (files (D.told dir.old))) }
+    ensures calls { D.tells → clock (D.told dir.new) ≡ clock (D.told dir.old) + calls_of result }
     ensures lent { D.lent dir.new ≡ D.lent dir.old }
     ensures beside { D.beside dir.new ≡ D.beside dir.old }
     ensures cause { HasCause CommitFault.Disk (D.faults dir.old) (D.faults dir.new) result }
@@ -34,7 +36,7 @@ fn move_all<D: Dir>(alloc: Global, dir: &mut D, from: &Path, to: &Path) -> Resul
 }
 
 /// Makes an attempt of a task of this folder the one whose output counts: its folder is moved to the task's. After a
-/// refusal each file of these two folders may be in either, in both or in none.
+/// refusal each file of these two folders may be in either, in both or in none. It is one call of the directory.
 pub fn commit_task<D: Dir>(
     alloc: Global,
     dir: &mut D,
@@ -60,6 +62,7 @@ pub fn commit_task<D: Dir>(
     ensures output { let output = committed_output_of folder.now attempt.now in D.tells
         → OnOk result ((files (D.told dir.new) output).now
         ≡ (files (D.told dir.old) (output_of folder.now attempt.now)).now) }
+    ensures calls { D.tells → clock (D.told dir.new) ≡ clock (D.told dir.old) + calls_of result }
     ensures lent { D.lent dir.new ≡ D.lent dir.old }
     ensures beside { D.beside dir.new ≡ D.beside dir.old }
     ensures cause { HasCause CommitFault.Disk (D.faults dir.old) (D.faults dir.new) result }

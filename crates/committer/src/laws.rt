@@ -1,6 +1,6 @@
 //! What whole folders and the names within them are good for. Each function is a law that its contract states, and does
 //! nothing.
-ghost use Rattle.committer.specs.Laws.{UnmarkedIsWholeInNone, SealedIsWholeInEach, CommittedIsWholeInEach, PartsAreApart, NumbersHaveTheirWidth};
+ghost use Rattle.committer.specs.Laws.{UnmarkedIsWholeInNone, SealedIsWholeInEach, CommittedIsWholeInEach, PartsAreApart, NamesByExample};
 
 /// A folder is unmarked exactly where it is whole in no image.
 pub fn unmarked_is_whole_in_none()
@@ -23,6 +23,6 @@ pub fn parts_are_apart()
 {}
 
 /// Numbers in names have their width, with zeros in front.
-pub fn numbers_have_their_width()
-    ensures { NumbersHaveTheirWidth }
+pub fn names_by_example()
+    ensures { NamesByExample }
 {}

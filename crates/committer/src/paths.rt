@@ -1,21 +1,12 @@
 ghost use Rattle.std.specs.Prelude.{◌≡◌, ◌+◌, ◌<◌, ◌≤◌, ◌++◌, length, codes, IfOk, OnOk};
 ghost use Rattle.peg_base.specs.NameText.{IsName};
-ghost use Rattle.committer.specs.Paths.{digits, success_name, temporary_name, part_name, task_front, task_name, attempt_front, attempt_name, success_of, part_of, temporary_of, task_of, task_part_of, output_name, task_output_of, attempt_of, output_of};
+ghost use Rattle.digit_names.specs.Digits.{digits};
+ghost use Rattle.committer.specs.Paths.{success_name, temporary_name, part_name, task_front, task_name, attempt_front, attempt_name, input_front, input_name, success_of, part_of, temporary_of, task_of, task_part_of, task_input_of, shuffle_of, output_name, task_output_of, attempt_of, output_of};
 
+use digit_names::{numbered, push_digits};
 use peg_base::{Attempt, Name, Path, Phase};
 use peg_text::NoMemory;
 use std::alloc::Global;
-
-/// Appends the last `width` digits of a number.
-fn push_digits(alloc: Global, text: &mut Vec<u8>, number: u32, width: u8) -> Result<(), NoMemory>
-    ensures { OnOk result (text.new.items ≡ text.old.items ++ digits width number) }
-{
-    if width > 0 {
-        push_digits(alloc, text, number / 10, width - 1)?;
-        text.push(b'0' + (number % 10) as u8)?;
-    }
-    Ok(())
-}
 
 fn new_name(alloc: Global, text: &[u8]) -> Result<Name, NoMemory>
     requires { IsName text.now }
@@ -23,16 +14,6 @@ fn new_name(alloc: Global, text: &[u8]) -> Result<Name, NoMemory>
 {
     let name = Name::new(alloc, text)?;
     Ok(name.unwrap())
-}
-
-/// The name of these bytes and then a number of `width` digits.
-fn numbered(alloc: Global, front: &[u8], number: u32, width: u8) -> Result<Name, NoMemory>
-    requires { IsName (front.now ++ digits width number) }
-    ensures { IfOk result (λ name. name ≡ front.now ++ digits width number) }
-{
-    let mut text = Vec::from_slice(alloc, front)?;
-    push_digits(alloc, &mut text, number, width)?;
-    new_name(alloc, &text)
 }
 
 #[tactic(auto, unfolding(crate::specs::Paths::success_name))]
@@ -46,7 +27,7 @@ fn success_name(alloc: Global) -> Result<Name, NoMemory>
 fn part_name(alloc: Global, part: u32) -> Result<Name, NoMemory>
     ensures { IfOk result (λ name. name ≡ part_name part) }
 {
-    numbered(alloc, b"part-", part, 5)
+    numbered(alloc, b"part-", u64::from(part), 5)
 }
 
 #[tactic(auto, unfolding(crate::specs::Paths::temporary_name))]
@@ -59,7 +40,7 @@ fn temporary_name(alloc: Global) -> Result<Name, NoMemory>
 fn task_name(alloc: Global, phase: Phase, task: u32) -> Result<Name, NoMemory>
     ensures { IfOk result (λ name. name ≡ task_name phase task) }
 {
-    numbered(alloc, task_front(phase), task, 6)
+    numbered(alloc, task_front(phase), u64::from(task), 6)
 }
 
 fn task_front(phase: Phase) -> &'static [u8]
@@ -76,10 +57,9 @@ fn attempt_name(alloc: Global, attempt: &Attempt) -> Result<Name, NoMemory>
         (λ name. name ≡ attempt_name attempt.now.task.phase attempt.now.task.task attempt.now.number) }
 {
     let mut text = Vec::from_slice(alloc, attempt_front(attempt.task.phase))?;
-    push_digits(alloc, &mut text, attempt.task.task, 6)?;
+    push_digits(alloc, &mut text, u64::from(attempt.task.task), 6)?;
     text.push(b'-')?;
-    push_digits(alloc, &mut text, u32::from(attempt.number), 1)?;
-    new_name(alloc, &text)
+    numbered(alloc, &text, u64::from(attempt.number), 1)
 }
 
 fn attempt_front(phase: Phase) -> &'static [u8]
@@ -88,6 +68,24 @@ fn attempt_front(phase: Phase) -> &'static [u8]
     match phase {
         Phase::Map => b"attempt-m-",
         Phase::Reduce => b"attempt-r-",
+    }
+}
+
+fn input_name(alloc: Global, phase: Phase, task: u32) -> Result<Name, NoMemory>
+    ensures { IfOk result (λ name. name ≡ input_name phase task) }
+{
+    let mut text = Vec::from_slice(alloc, input_front(phase))?;
+    push_digits(alloc, &mut text, u64::from(task), 6)?;
+    text.extend_from_slice(b".in")?;
+    new_name(alloc, &text)
+}
+
+fn input_front(phase: Phase) -> &'static [u8]
+    ensures { result.now ≡ input_front phase }
+{
+    match phase {
+        Phase::Map => b"m-",
+        Phase::Reduce => b"r-",
     }
 }
 
@@ -179,4 +177,23 @@ pub fn task_output(alloc: Global, folder: &Path, phase: Phase, task: u32) -> Res
 {
     let path = task_path(alloc, folder, phase, task)?;
     path.child(alloc, &output_name(alloc, phase, task)?)
+}
+
+/// What the children of a task of this folder read.
+pub fn task_input(alloc: Global, folder: &Path, phase: Phase, task: u32) -> Result<Path, NoMemory>
+    requires { length folder.now < 7 }
+    ensures { IfOk result (λ path. path ≡ task_input_of folder.now phase task) }
+{
+    let temporary = temporary_path(alloc, folder)?;
+    temporary.child(alloc, &input_name(alloc, phase, task)?)
+}
+
+/// The folder in which the outputs of this folder's map tasks are sorted and merged.
+#[tactic(auto, unfolding(crate::specs::Paths::shuffle_name))]
+pub fn shuffle_folder(alloc: Global, folder: &Path) -> Result<Path, NoMemory>
+    requires { length folder.now < 7 }
+    ensures { IfOk result (λ path. path ≡ shuffle_of folder.now) }
+{
+    let temporary = temporary_path(alloc, folder)?;
+    temporary.child(alloc, &new_name(alloc, b"shuffle")?)
 }

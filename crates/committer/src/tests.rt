@@ -3,7 +3,7 @@ ghost use Rattle.std.specs.Prelude.{◌≡◌, length, IfOk};
 use crate::paths::{part_path, success_path, task_part_path};
 use crate::{
     attempt_output, begin_sealed, commit_job, commit_task, drop_folder, is_whole, open_folder,
-    task_output,
+    shuffle_folder, task_input, task_output,
 };
 use dir_disk::SilentDir;
 use peg_base::{Attempt, Name, Path, Phase, TaskId};
@@ -65,6 +65,15 @@ fn paths_have_parts_of_five_digits_and_tasks_of_six(rt: HostRuntime) -> Result<(
             task_part_path(alloc, &job, 7)?,
             b"/f/_temporary/task-r-000007/part-00007",
         ),
+        (
+            task_input(alloc, &job, Phase::Map, 524287)?,
+            b"/f/_temporary/m-524287.in",
+        ),
+        (
+            task_input(alloc, &job, Phase::Reduce, 63)?,
+            b"/f/_temporary/r-000063.in",
+        ),
+        (shuffle_folder(alloc, &job)?, b"/f/_temporary/shuffle"),
     ];
     for (path, want) in cases {
         let text = text_of(alloc, &path)?;
