@@ -1,15 +1,14 @@
 -- What is copied when one piece more is.
-use Rattle.std.proofs.Common.{◌≡◌, ℕ, zero, suc, ◌+◌, ◌-◌, ◌<◌, ◌≤◌, Bool, true, false, ◌&&◌, List, [], ◌∷◌, ◌++◌, length, get_or, take, drop, Option, Some, None, Result, Ok, Err, sym, ap, ◌∙◌, subst, arith, inl, inr, eqb, if◌then◌else◌}
+use Rattle.std.proofs.Common.{◌≡◌, ℕ, ◌+◌, ◌-◌, ◌<◌, ◌≤◌, Bool, true, false, ◌&&◌, List, [], ◌∷◌, ◌++◌, length, get_or, take, drop, Option, Some, None, Result, Ok, Err, sym, ap, ◌∙◌, subst, arith, inl, inr, eqb}
 use Rattle.std.specs.List.{between, ends_with}
 use Rattle.std.specs.Prelude.{not, is_some, unwrap_or, OnOk}
 use Rattle.std.specs.Bool.{MatchBool}
 use lib.Pointwise.{pointwise}
 use Rattle.std.proofs.Math.Seq.{take-add}
-use Rattle.std.proofs.lemmas.Bool.{cases_Bool, cases_lt, cond-true, cond-false, eqb-true, eqb-false, ne_eqb, not-true, not-false}
+use Rattle.std.proofs.lemmas.Bool.{cases_Bool, cases_lt, eqb-true, eqb-false, ne_eqb, not-true, not-false}
 use Rattle.std.proofs.lemmas.List.{append_assoc, length-take-le, take_all, take_more, drop_all, drop-drop, drop_more, take-append-drop}
 use Rattle.std.proofs.lemmas.List.Edits.{between_more, between_none, get_or-between, length-between}
 use Rattle.std.proofs.lemmas.Slice.{between_to_end}
-use Rattle.memchr.specs.Find.{is_byte, places_from}
 use Rattle.peg_base.specs.Names.{Names, same_path}
 use Rattle.peg_base.proofs.Under.{same_path_comm}
 use Rattle.dir_disk.specs.State.{Content, Held, State, StandsOutside, bytes_of, after_append}
@@ -18,12 +17,12 @@ use Rattle.dir_disk.specs.Moments.{Told, Through, Both, files}
 use Rattle.dir_disk.proofs.Through.{weaker}
 use Rattle.dir_disk.specs.Calls.{HasFile, CanAppend}
 use Rattle.dir_disk.proofs.Keeping.{not_appended, appended_now, other_path, written_first}
-use Rattle.peg_text.specs.Records.{Cut, cut_of, records_of}
+use Rattle.peg_text.specs.Records.{cut_of, records_of}
 use Rattle.splits.specs.declared.table.Split.{Split}
 use Rattle.splits.specs.declared.copying.Progress.{Progress}
 use Rattle.splits.specs.Lines.{lines_text}
 use Rattle.splits.specs.Copying.{HasNoLfBetween, IsLineEnd, BeginsAt, IsCopied, IsCopying, HasCopied, begun, bytes_at, is_unended, lines_up_to, lines_between}
-use Rattle.splits.proofs.CutLemmas.{onto_cut-length, whole-append, unended-push}
+use Rattle.splits.proofs.CutLemmas.{whole-append, unended-push}
 use Rattle.splits.proofs.LineLemmas.{up_to_all, up_to_lf}
 use Rattle.splits.proofs.StartLemmas.{StandsAt, stands_inside, stands_byte, stands_read, stands_whole}
 
@@ -127,28 +126,6 @@ ends_at bytes piece from end place stop stands ordered before ends =
           first.unbroken (k - place) (omega arith) (omega arith) (stands_byte bytes piece place (k - place) stands (omega (arith, first.inside)) ∙ ap (λ i. get_or bytes i 0) at ∙ there)
     ] in
     ap (λ n. records_of (between from n bytes)) (sym next) ∙ lf_copied bytes from end lf ordered (omega (arith, first.behind)) inside (sym (stands_byte bytes piece place (stop - 1) stands first.inside) ∙ first.is) unbroken
-
--- ---- LFs in places
-
-whole-cons : (b : ℕ) (bytes : List ℕ) → length (cut_of (b ∷ bytes)).whole ≡ (if eqb b 10 then 1 + length (cut_of bytes).whole else length (cut_of bytes).whole)
-whole-cons b bytes =
-    elim (cases_Bool (eqb b 10)) [
-      | inl is ↦ ap (λ (c : Cut). length c.whole) (cond-true _ _ _ is) ∙ omega arith ∙ sym (cond-true (eqb b 10) _ _ is)
-      | inr isnt ↦ ap (λ (c : Cut). length c.whole) (cond-false _ _ _ isnt) ∙ onto_cut-length b (cut_of bytes).whole (cut_of bytes).rest ∙ sym (cond-false (eqb b 10) _ _ isnt)
-    ]
-
-pub length-places : (bytes : List ℕ) (more from : ℕ) → from + more ≡ length bytes → length (places_from (is_byte 10) bytes from more) ≡ length (cut_of (drop from bytes)).whole
-unfolding places_from
-length-places bytes zero from is = ap (λ (l : List ℕ). length (cut_of l).whole) (sym (drop_all from bytes (omega arith)))
-length-places bytes (suc more) from is =
-    let here : drop from bytes ≡ get_or bytes from 0 ∷ drop (from + 1) bytes = drop_more bytes from 0 (omega arith) in
-    let later = length-places bytes more (from + 1) (omega arith) in
-    elim (cases_Bool (eqb (get_or bytes from 0) 10)) [
-      | inl lf ↦
-          ap length (cond-true _ _ _ lf) ∙ ap suc later ∙ omega arith ∙ sym (cond-true _ _ _ lf) ∙ sym (whole-cons (get_or bytes from 0) (drop (from + 1) bytes)) ∙ ap (λ (l : List ℕ). length (cut_of l).whole) (sym here)
-      | inr other ↦
-          ap length (cond-false _ _ _ other) ∙ later ∙ sym (cond-false _ _ _ other) ∙ sym (whole-cons (get_or bytes from 0) (drop (from + 1) bytes)) ∙ ap (λ (l : List ℕ). length (cut_of l).whole) (sym here)
-    ]
 
 -- ---- the directory when one piece more is appended
 

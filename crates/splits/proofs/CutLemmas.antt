@@ -38,6 +38,10 @@ joined (b ∷ bs) =
           ap (λ l. b ∷ l) (joined bs) ∙ onto_cut-joined b (cut_of bs).whole (cut_of bs).rest ∙ ap (λ (c : Cut). lines_text c.whole ++ c.rest) (sym (cond-false _ _ _ isnt))
     ]
 
+pub length-span : (lines : List (List ℕ)) → length lines ≤ span lines
+length-span [] = omega arith
+length-span (line ∷ lines) = omega (arith, length-span lines)
+
 pub length-joined : (bytes : List ℕ) → length bytes ≡ span (cut_of bytes).whole + length (cut_of bytes).rest
 length-joined bytes =
     ap length (joined bytes) ∙ length-append (lines_text (cut_of bytes).whole) (cut_of bytes).rest ∙ ap (λ n. n + length (cut_of bytes).rest) (length-lines_text (cut_of bytes).whole)
@@ -62,7 +66,7 @@ whole_low bytes from unbroken =
 
 -- ---- more bytes
 
-pub onto_cut-length : (b : ℕ) (whole : List (List ℕ)) (rest : List ℕ) → length (onto_cut b whole rest).whole ≡ length whole
+onto_cut-length : (b : ℕ) (whole : List (List ℕ)) (rest : List ℕ) → length (onto_cut b whole rest).whole ≡ length whole
 onto_cut-length b [] rest = refl
 onto_cut-length b (line ∷ lines) rest = refl
 

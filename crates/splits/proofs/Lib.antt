@@ -1,4 +1,5 @@
 pub mod CopyLemmas
+pub mod CountLemmas
 pub mod CutLemmas
 pub mod LineLemmas
 pub mod StartLemmas

@@ -11,8 +11,9 @@ ghost use Rattle.splits.specs.Copying.{HasCopied, IsCopying, IsLineEnd, begun, b
 ghost use Rattle.splits.specs.Lines.{lines_text};
 
 use crate::fault::SplitFault;
+use crate::line_count::count_lines;
 use dir_disk::Dir;
-use memchr::{memchr, memchr_iter};
+use memchr::memchr;
 use peg_base::Path;
 use std::alloc::Global;
 
@@ -63,7 +64,7 @@ impl Progress {
         ensures unended { self.new.unended ≡ is_unended bytes.now }
     {
         self.place += bytes.len() as u64;
-        self.lines += memchr_iter(b'\n', bytes).count() as u64;
+        self.lines += count_lines(bytes);
         self.unended = !bytes.ends_with(b"\n");
     }
 }

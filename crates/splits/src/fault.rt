@@ -1,6 +1,8 @@
 ghost use Rattle.std.specs.Prelude.{◌≡◌};
+ghost use Rattle.splits.specs.declared.fault.SplitFault.TheVariants.{NoMemory as OutOfMemory};
 
 use dir_disk::DirFault;
+use peg_text::NoMemory;
 use thiserror::Error;
 
 /// Why the lines of a split were not written.
@@ -24,5 +26,13 @@ impl From<DirFault> for SplitFault {
             DirFault::Failed => SplitFault::Disk,
             DirFault::NoMemory => SplitFault::NoMemory,
         }
+    }
+}
+
+impl From<NoMemory> for SplitFault {
+    ghost from_gives = { λ _ e. e ≡ OutOfMemory };
+
+    fn from(_: NoMemory) -> Self {
+        SplitFault::NoMemory
     }
 }

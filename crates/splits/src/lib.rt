@@ -4,6 +4,7 @@
 mod copying;
 mod fault;
 pub mod laws;
+mod line_count;
 mod lines;
 mod start;
 mod table;
