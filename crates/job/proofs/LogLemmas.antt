@@ -1,0 +1,119 @@
+-- What the entries of a log tell of a task is what the steps of the machine tell.
+use Rattle.std.proofs.Common.{◌≡◌, ◌≢◌, ℕ, ◌+◌, ◌<◌, Bool, true, cond, eqb, ◌&&◌, not, List, [], ◌∷◌, ◌++◌, length, drop, Option, Result, Ok, Err, refl, sym, ap, ◌∙◌, subst, arith}
+use Rattle.std.specs.List.{AllByRecursion}
+use Rattle.std.proofs.lemmas.List.{append-nil}
+use Rattle.std.proofs.lemmas.List.Sums.{sum_by-cons}
+use Rattle.std.proofs.Math.Seq.{drop-append_seam}
+use Rattle.peg_base.specs.Names.{Names, same_path}
+use Rattle.peg_base.proofs.Under.{same_path-refl}
+use Rattle.peg_base.specs.declared.tasks.Phase.{Phase}
+use Rattle.peg_base.specs.declared.tasks.Phase.TheVariants.{Map, Reduce}
+use Rattle.peg_base.specs.declared.tasks.Attempt.{Attempt}
+use Rattle.dir_disk.specs.Moments.{Told}
+use Rattle.dir_disk.specs.Children.{Given, Seen}
+use Rattle.dir_disk.specs.declared.site.LogEntry.{LogEntry}
+use Rattle.dir_disk.specs.declared.site.LogEntry.TheVariants.{Started, StartFailed as Refused, Ended as Left}
+use Rattle.task_core.specs.declared.task.Task.{Task}
+use Rattle.task_core.specs.declared.task.Task.TheVariants.{Ready, Running, Done, Dead}
+use Rattle.task_core.specs.Machine.{task_at, fresh, after_all, is_success, IsBusy, IsBusyRun, NoneDead}
+use Rattle.task_core.specs.Log.{is_failure_of, is_success_of, failures_of, successes_of}
+use Rattle.task_core.proofs.History.{Counts, Tells, Tells-run, dead_iff, done_iff}
+use Rattle.job.specs.declared.fault.JobFault.{JobFault}
+use Rattle.job.specs.declared.fault.JobFault.TheVariants.{TaskFailed, Disk, NoMemory}
+use Rattle.job.specs.Work.{Work, task_id}
+use Rattle.job.specs.Failing.{gained, IsEntryOf, step_of, steps_of, same_phase, is_of, is_failed_of, is_done_of, failed_of, done_of, made_in}
+use Rattle.job.specs.Ran.{Answers, Ran, StopsEarly, TellsOf}
+
+same_phase-refl : (phase : Phase) → same_phase phase phase ≡ true
+same_phase-refl Map = refl
+same_phase-refl Reduce = refl
+
+-- an attempt of this work is one of task t where its number is t
+is_of_task : (w : Work) (attempt : Attempt) (t : ℕ) → attempt.task.job ≡ w.folder → attempt.task.phase ≡ w.phase → is_of (task_id w.folder w.phase t) attempt ≡ eqb attempt.task.task t
+is_of_task w attempt t job phase =
+    let path : same_path attempt.task.job w.folder ≡ true = ap (λ (p : Names). same_path p w.folder) job ∙ same_path-refl w.folder in
+    let kind : same_phase attempt.task.phase w.phase ≡ true = ap (λ (p : Phase). same_phase p w.phase) phase ∙ same_phase-refl w.phase in
+    rw (path, kind) refl
+
+entry_failed : (w : Work) (x : LogEntry) (t : ℕ) → IsEntryOf w x → is_failed_of (task_id w.folder w.phase t) x ≡ is_failure_of t (step_of x)
+entry_failed w (Started attempt) t is = refl
+entry_failed w (Refused attempt) t is = is_of_task w attempt t is.job is.phase
+entry_failed w (Left attempt status) t is =
+    ap (λ (b : Bool). b && not (is_success status)) (is_of_task w attempt t is.job is.phase)
+
+entry_done : (w : Work) (x : LogEntry) (t : ℕ) → IsEntryOf w x → is_done_of (task_id w.folder w.phase t) x ≡ is_success_of t (step_of x)
+entry_done w (Started attempt) t is = refl
+entry_done w (Refused attempt) t is = refl
+entry_done w (Left attempt status) t is =
+    ap (λ (b : Bool). b && is_success status) (is_of_task w attempt t is.job is.phase)
+
+pub failed_counts : (w : Work) (xs : List LogEntry) (t : ℕ) → AllByRecursion (IsEntryOf w) xs → failed_of (task_id w.folder w.phase t) xs ≡ failures_of t (steps_of xs)
+failed_counts w [] t each = refl
+failed_counts w (x ∷ xs) t each =
+    sum_by-cons (λ y. cond (is_failed_of (task_id w.folder w.phase t) y) 1 0) x xs ∙ ap (λ (b : Bool). cond b 1 0 + failed_of (task_id w.folder w.phase t) xs) (entry_failed w x t each.0) ∙ ap (λ (k : ℕ). cond (is_failure_of t (step_of x)) 1 0 + k) (failed_counts w xs t each.1) ∙ sym (sum_by-cons (λ y. cond (is_failure_of t y) 1 0) (step_of x) (steps_of xs))
+
+pub done_counts : (w : Work) (xs : List LogEntry) (t : ℕ) → AllByRecursion (IsEntryOf w) xs → done_of (task_id w.folder w.phase t) xs ≡ successes_of t (steps_of xs)
+done_counts w [] t each = refl
+done_counts w (x ∷ xs) t each =
+    sum_by-cons (λ y. cond (is_done_of (task_id w.folder w.phase t) y) 1 0) x xs ∙ ap (λ (b : Bool). cond b 1 0 + done_of (task_id w.folder w.phase t) xs) (entry_done w x t each.0) ∙ ap (λ (k : ℕ). cond (is_success_of t (step_of x)) 1 0 + k) (done_counts w xs t each.1) ∙ sym (sum_by-cons (λ y. cond (is_success_of t y) 1 0) (step_of x) (steps_of xs))
+
+-- ---- the state after a busy run, told by its entries
+
+dead_tells : (w : Work) (slots : ℕ) (xs : List LogEntry) (t : ℕ) → AllByRecursion (IsEntryOf w) xs → IsBusyRun (fresh w.count slots) (steps_of xs) → task_at (after_all (fresh w.count slots) (steps_of xs)).tasks t ≡ Dead → failed_of (task_id w.folder w.phase t) xs ≡ 4
+dead_tells w slots xs t each run dead =
+    failed_counts w xs t each ∙ (dead_iff w.count t _ _ _ _ _ (Tells-run IsBusy w.count slots t (steps_of xs) run)).0 dead
+
+dead_below : (w : Work) (slots : ℕ) (xs : List LogEntry) (t : ℕ) → IsBusyRun (fresh w.count slots) (steps_of xs) → task_at (after_all (fresh w.count slots) (steps_of xs)).tasks t ≡ Dead → t < w.count
+dead_below w slots xs t run dead =
+    (subst (λ (x : Task). Tells w.count t x (steps_of xs)) dead (Tells-run IsBusy w.count slots t (steps_of xs) run)).0.task
+
+few_failed : (n t : ℕ) (task : Task) (c f s : ℕ) (r : Option ℕ) → task ≢ Dead → Counts n t task c f s r → f < 4
+few_failed n t (Ready a) c f s r alive counts = omega (arith, counts.0.last, counts.0.failures)
+few_failed n t (Running a) c f s r alive counts = omega (arith, counts.0.last, counts.0.failures)
+few_failed n t Done c f s r alive counts = omega (arith, counts.0.failures)
+few_failed n t Dead c f s r alive counts = absurd (alive refl)
+
+alive_tells : (w : Work) (slots : ℕ) (xs : List LogEntry) (t : ℕ) → AllByRecursion (IsEntryOf w) xs → IsBusyRun (fresh w.count slots) (steps_of xs) → task_at (after_all (fresh w.count slots) (steps_of xs)).tasks t ≢ Dead → failed_of (task_id w.folder w.phase t) xs < 4
+alive_tells w slots xs t each run alive =
+    let few = few_failed w.count t (task_at (after_all (fresh w.count slots) (steps_of xs)).tasks t) _ (failures_of t (steps_of xs)) _ _ alive (Tells-run IsBusy w.count slots t (steps_of xs) run) in
+    omega (arith, few, failed_counts w xs t each)
+
+done_tells : (w : Work) (slots : ℕ) (xs : List LogEntry) (t : ℕ) → AllByRecursion (IsEntryOf w) xs → IsBusyRun (fresh w.count slots) (steps_of xs) → t < w.count → task_at (after_all (fresh w.count slots) (steps_of xs)).tasks t ≡ Done → done_of (task_id w.folder w.phase t) xs ≡ 1
+done_tells w slots xs t each run below done =
+    done_counts w xs t each ∙ (done_iff w.count t _ _ _ _ _ below (Tells-run IsBusy w.count slots t (steps_of xs) run)).0 done
+
+not_done_dead : (task : Task) → task ≡ Done → task ≢ Dead
+not_done_dead task done dead = cc
+
+each_front : (w : Work) (front ends : List LogEntry) → AllByRecursion (IsEntryOf w) (front ++ ends) → AllByRecursion (IsEntryOf w) front
+each_front w [] ends each = tt
+each_front w (x ∷ front) ends each = (each.0, each_front w front ends each.1)
+
+stops_early : (w : Work) (slots : ℕ) (front ends : List LogEntry) → AllByRecursion (IsEntryOf w) (front ++ ends) → IsBusyRun (fresh w.count slots) (steps_of front) → made_in ends ≡ 0 → NoneDead (after_all (fresh w.count slots) (steps_of front)).tasks → StopsEarly w.folder w.phase (front ++ ends)
+stops_early w slots front ends each run made none =
+    record {
+      front = front;
+      ends = ends;
+      parts = refl;
+      few = λ t. alive_tells w slots front t (each_front w front ends each) run (none t);
+      none_made = made;
+    }
+
+answer_tells : (w : Work) (slots : ℕ) (front ends : List LogEntry) (r : Result ℕ JobFault) → AllByRecursion (IsEntryOf w) (front ++ ends) → IsBusyRun (fresh w.count slots) (steps_of front) → made_in ends ≡ 0 → Answers w (after_all (fresh w.count slots) (steps_of front)) front ends r → TellsOf w.folder w.phase w.count (front ++ ends) r
+answer_tells w slots front ends (Ok made) each run none answer =
+    let whole : front ++ ends ≡ front = ap (λ (l : List LogEntry). front ++ l) answer.2 ∙ append-nil front in
+    let here = each_front w front ends each in
+    subst (λ (l : List LogEntry). TellsOf w.folder w.phase w.count l (Ok made)) (sym whole) (answer.1, (λ t. alive_tells w slots front t here run (not_done_dead (task_at (after_all (fresh w.count slots) (steps_of front)).tasks t) (answer.0 t))), (λ t below. done_tells w slots front t here run below (answer.0 t)))
+answer_tells w slots front ends (Err (TaskFailed id)) each run none answer =
+    let whole : front ++ ends ≡ front = ap (λ (l : List LogEntry). front ++ l) answer.2 ∙ append-nil front in
+    let here = each_front w front ends each in
+    let four : failed_of (task_id w.folder w.phase id.task) front ≡ 4 = dead_tells w slots front id.task here run answer.1.dead in
+    let four_is : failed_of id front ≡ 4 = subst (λ i. failed_of i front ≡ 4) (sym answer.0) four in
+    subst (λ (l : List LogEntry). TellsOf w.folder w.phase w.count l (Err (TaskFailed id))) (sym whole) (answer.0, dead_below w slots front id.task run answer.1.dead, four_is, (λ t less. alive_tells w slots front t here run (answer.1.least t less)))
+answer_tells w slots front ends (Err Disk) each run none answer = stops_early w slots front ends each run none answer
+answer_tells w slots front ends (Err NoMemory) each run none answer = stops_early w slots front ends each run none answer
+
+pub ran_tells : (tells : Type 0) (w : Work) (slots : ℕ) (inputs : ℕ → List ℕ) (old new : Seen) (had has : List Given) (d e : Told) (r : Result ℕ JobFault) → Ran tells w slots inputs old new had has d e r → TellsOf w.folder w.phase w.count (gained old.log new.log) r
+ran_tells tells w slots inputs old new had has d e r ran =
+    let gains : gained old.log new.log ≡ ran.front ++ ran.ends = ap (λ (l : List LogEntry). drop (length old.log) l) ran.log ∙ drop-append_seam old.log (ran.front ++ ran.ends) in
+    subst (λ (l : List LogEntry). TellsOf w.folder w.phase w.count l r) (sym gains) (answer_tells w slots ran.front ran.ends r ran.of_work ran.busy ran.none_made ran.answer)
