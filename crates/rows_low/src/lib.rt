@@ -8,6 +8,8 @@ mod dir_rows;
 #[cfg(test)]
 mod merge_rows;
 #[cfg(test)]
+mod shuffle_rows;
+#[cfg(test)]
 mod spill_rows;
 #[cfg(test)]
 mod split_rows;
