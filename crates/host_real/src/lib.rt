@@ -3,6 +3,7 @@
 
 mod children;
 mod file_source;
+mod open_files;
 mod reads;
 mod site;
 mod std_streams;

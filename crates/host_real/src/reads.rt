@@ -15,3 +15,18 @@ pub(crate) fn read_some(reader: &mut impl Read, buffer: &mut [u8]) -> io::Result
     }
     Err(io::Error::from(ErrorKind::Interrupted))
 }
+
+/// Reads until the buffer is full or the reader is at its end: how many bytes came.
+pub(crate) fn fill(reader: &mut impl Read, buffer: &mut [u8]) -> io::Result<usize>
+    ensures { IfOk result (λ len. len ≤ length buffer.old) }
+{
+    let mut len = 0;
+    while len < buffer.len() {
+        let more = read_some(reader, &mut buffer[len..])?;
+        if more == 0 {
+            break;
+        }
+        len += more;
+    }
+    Ok(len)
+}

@@ -5,30 +5,27 @@ ghost use Rattle.dir_disk.specs.State.{no_files};
 ghost use Rattle.dir_disk.specs.Children.{Seen, loans_of};
 
 use crate::children::{Children, command_of};
-use crate::reads::read_some;
+use crate::open_files::{LONGEST, OpenFiles};
 use crate::std_streams::say_on;
 use crate::tree::{clear_folder, is_absent, is_folder, parent_of, remove_any, sync, sync_tree};
 use dir_disk::{Console, Dir, DirFault, Ended, SayFault, Site, StartFault};
 use peg_base::{Attempt, Path, Words};
 use peg_text::NoMemory;
 use std::alloc::{AllocGlobal, Global};
-use std::fs::{OpenFile, OpenOptions};
-use std::io::{ErrorKind, Print, Read, Seek, SeekFrom, Write};
+use std::io::{ErrorKind, Print};
 use std::process::Processes;
 use std::rt::Files;
 use std::{fs, io};
-
-/// The most bytes of a file: 2^50.
-const LONGEST: u64 = 1 << 50;
 
 /// A work folder of the machine with standard output beside it, at which children are started. It tells no content.
 ///
 /// Folders are made where a file is written, and may be left without files; a folder without files counts as not there.
 #[derive(Drop)]
-pub struct HostSite<'r, R: Processes> {
+pub struct HostSite<'r, R: Files + Processes> {
     rt: &'r R,
     work: String,
     child: String,
+    open: OpenFiles<R>,
     children: Children<R>,
     faults: u64,
     say_faults: u64,
@@ -50,6 +47,7 @@ impl<'r, R: Files + Print + Processes + AllocGlobal + Clone + Drop> HostSite<'r,
             rt,
             work: String::from_str(alloc, work)?,
             child: String::from_str(alloc, child)?,
+            open: OpenFiles::new(),
             children: Children::new(alloc),
             faults: 0,
             say_faults: 0,
@@ -95,43 +93,6 @@ impl<'r, R: Files + Print + Processes + AllocGlobal + Clone + Drop> HostSite<'r,
         }
     }
 
-    /// Fills the buffer with what the file at a place has from `from` on: how many bytes there are.
-    fn try_read(&self, place: &str, from: u64, buffer: &mut [u8]) -> io::Result<usize>
-        ensures { IfOk result (λ len. len ≤ length buffer.old) }
-    {
-        let mut file = fs::open(self.rt, place)?;
-        if from > LONGEST {
-            return Ok(0);
-        }
-        file.seek(SeekFrom::Start(from))?;
-        fill(&mut file, buffer)
-    }
-
-    /// Opens a file to append to it, and makes it and the folders above it where they are missing.
-    fn open_to_append(&self, place: &str) -> io::Result<R::File> {
-        let mut how = OpenOptions::new();
-        how.append(true).create(true);
-        match how.open(self.rt, place) {
-            Err(error) if error.kind() == ErrorKind::NotFound => {
-                fs::create_dir_all(self.rt, parent_of(place))?;
-                how.open(self.rt, place)
-            }
-            Err(error) if error.kind() == ErrorKind::IsADirectory => {
-                clear_folder(self.rt, place)?;
-                how.open(self.rt, place)
-            }
-            answer => answer,
-        }
-    }
-
-    fn try_append(&self, place: &str, bytes: &[u8]) -> io::Result<()> {
-        let mut file = self.open_to_append(place)?;
-        if bytes.len() as u64 > LONGEST.saturating_sub(file.metadata()?.len()) {
-            return Err(io::Error::from(ErrorKind::FileTooLarge));
-        }
-        file.write_all(bytes)
-    }
-
     fn try_move(&self, from: &str, to: &str) -> io::Result<()> {
         if is_folder(self.rt, to)? {
             clear_folder(self.rt, to)?;
@@ -150,21 +111,6 @@ impl<'r, R: Files + Print + Processes + AllocGlobal + Clone + Drop> HostSite<'r,
         }
         Ok(())
     }
-}
-
-/// Reads until the buffer is full or the reader is at its end: how many bytes came.
-fn fill(reader: &mut impl Read, buffer: &mut [u8]) -> io::Result<usize>
-    ensures { IfOk result (λ len. len ≤ length buffer.old) }
-{
-    let mut len = 0;
-    while len < buffer.len() {
-        let more = read_some(reader, &mut buffer[len..])?;
-        if more == 0 {
-            break;
-        }
-        len += more;
-    }
-    Ok(len)
 }
 
 impl<'r, R: Files + Print + Processes + AllocGlobal + Clone + Drop> Dir for HostSite<'r, R> {
@@ -201,7 +147,7 @@ impl<'r, R: Files + Print + Processes + AllocGlobal + Clone + Drop> Dir for Host
         let Ok(mut bytes) = vec![in alloc; 0u8; max as usize] else {
             return Err(DirFault::NoMemory);
         };
-        let answer = self.try_read(place.as_str(), from, &mut bytes);
+        let answer = self.open.read(self.rt, place, from, &mut bytes);
         let len = self.counted(answer)?;
         bytes.truncate(len);
         Ok(bytes)
@@ -211,7 +157,7 @@ impl<'r, R: Files + Print + Processes + AllocGlobal + Clone + Drop> Dir for Host
         let Ok(place) = self.place_of(alloc, path) else {
             return Err(DirFault::NoMemory);
         };
-        let answer = self.try_append(place.as_str(), bytes);
+        let answer = self.open.append(self.rt, place, bytes);
         self.counted(answer)
     }
 
@@ -219,6 +165,7 @@ impl<'r, R: Files + Print + Processes + AllocGlobal + Clone + Drop> Dir for Host
         let (Ok(from), Ok(to)) = (self.place_of(alloc, from), self.place_of(alloc, to)) else {
             return Err(DirFault::NoMemory);
         };
+        self.open.close();
         let answer = self.try_move(from.as_str(), to.as_str());
         self.counted(answer)
     }
@@ -227,6 +174,7 @@ impl<'r, R: Files + Print + Processes + AllocGlobal + Clone + Drop> Dir for Host
         let Ok(place) = self.place_of(alloc, path) else {
             return Err(DirFault::NoMemory);
         };
+        self.open.close();
         let answer = remove_any(self.rt, place.as_str());
         self.counted(answer)
     }
@@ -235,6 +183,7 @@ impl<'r, R: Files + Print + Processes + AllocGlobal + Clone + Drop> Dir for Host
         let Ok(place) = self.place_of(alloc, path) else {
             return Err(DirFault::NoMemory);
         };
+        self.open.close();
         let answer = self.try_settle(place.as_str(), path.names().len());
         self.counted(answer)
     }
@@ -290,6 +239,7 @@ impl<'r, R: Files + Print + Processes + AllocGlobal + Clone + Drop> Site for Hos
             return Err(StartFault::NoMemory);
         };
         let place = place.as_str();
+        self.open.close();
         self.children.start(
             self.rt,
             alloc,

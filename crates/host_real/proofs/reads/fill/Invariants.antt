@@ -1,5 +1,5 @@
 use Rattle.std.proofs.Common.{◌≤◌, ◌-◌, length}
-use Rattle.host_real.proofs.site.fill.Given as goal
+use Rattle.host_real.proofs.reads.fill.Given as goal
 
 abbrev pub invariant-loop-len : goal.invariant-loop-len
 invariant-loop-len g l = l.len ≤ length l.buffer
