@@ -1,0 +1,241 @@
+//! `pegbench COMMAND ..`: one part of a job by itself, over files of a folder, to be timed and to be tried on the machine.
+//! No promise stands on it.
+#![tactic(auto)]
+
+ghost use Rattle.std.specs.Prelude.{◌≡◌, ◌≤◌, [], length, IfOk};
+
+use dir_disk::{Dir, DirFault, Site};
+use host_real::{HeldStreams, HostSite, program_words};
+use job::{JobFault, JobSpec, ShuffleFault, run_job, shuffle};
+use peg_base::{Name, Path, Words};
+use peg_text::{NoMemory, read_decimal};
+use splits::{Split, SplitFault, lines_of_split, split_table};
+use std::alloc::Global;
+use std::process::ExitCode;
+
+const HELP: &str = "\
+pegbench: one part of a job by itself, over files of a folder
+
+usage: pegbench split WORK FILE LENGTH     the lines of each split of WORK/FILE as WORK/split-N
+       pegbench shuffle WORK FILE LIMIT    the pairs of WORK/FILE as WORK/job/_temporary/r-000000.in, by runs of LIMIT bytes
+       pegbench job WORK FILE LIMIT CHILD LENGTH
+                                           the job WORK/job over WORK/FILE, `CHILD id` being its mapper and its reducer
+";
+
+/// Why a part was not carried out.
+#[derive(Clone, Copy)]
+enum BenchFault {
+    Usage,
+    /// Four attempts of a task failed.
+    Task,
+    Disk,
+    NoMemory,
+}
+
+impl From<NoMemory> for BenchFault {
+    fn from(_: NoMemory) -> Self {
+        BenchFault::NoMemory
+    }
+}
+
+impl From<DirFault> for BenchFault {
+    fn from(fault: DirFault) -> Self {
+        match fault {
+            DirFault::Failed => BenchFault::Disk,
+            DirFault::NoMemory => BenchFault::NoMemory,
+        }
+    }
+}
+
+impl From<SplitFault> for BenchFault {
+    fn from(fault: SplitFault) -> Self {
+        match fault {
+            SplitFault::Disk => BenchFault::Disk,
+            SplitFault::NoMemory => BenchFault::NoMemory,
+        }
+    }
+}
+
+impl From<ShuffleFault> for BenchFault {
+    fn from(fault: ShuffleFault) -> Self {
+        match fault {
+            ShuffleFault::Disk => BenchFault::Disk,
+            ShuffleFault::NoMemory => BenchFault::NoMemory,
+        }
+    }
+}
+
+impl From<JobFault> for BenchFault {
+    fn from(fault: JobFault) -> Self {
+        match fault {
+            JobFault::TaskFailed { .. } => BenchFault::Task,
+            JobFault::Disk => BenchFault::Disk,
+            JobFault::NoMemory => BenchFault::NoMemory,
+        }
+    }
+}
+
+/// The path of one name.
+fn path_of(alloc: Global, text: &[u8]) -> Result<Path, BenchFault>
+    ensures { IfOk result (λ path. length path ≡ 1) }
+{
+    let Some(name) = Name::new(alloc, text)? else {
+        return Err(BenchFault::Usage);
+    };
+    Ok(Path::root(alloc).child(alloc, &name)?)
+}
+
+/// Writes the lines of a split.
+fn write_split<D: Dir>(
+    alloc: Global,
+    dir: &mut D,
+    file: &Path,
+    split: &Split,
+    number: usize,
+) -> Result<(), BenchFault>
+    requires lent { D.lent dir.old ≡ [] }
+    requires untold { D.tells → ⊥ }
+    ensures lent { D.lent dir.new ≡ [] }
+{
+    let name = format!(in alloc; "split-{number}").map_err(|_| BenchFault::NoMemory)?;
+    let out = path_of(alloc, name.as_bytes())?;
+    lines_of_split(alloc, dir, file, split, &out)?;
+    Ok(())
+}
+
+/// Writes the lines of each split of a file, where splits of this length are asked for.
+fn split_file<D: Dir>(
+    alloc: Global,
+    dir: &mut D,
+    file: &[u8],
+    length: u64,
+) -> Result<(), BenchFault>
+    requires lent { D.lent dir.old ≡ [] }
+    requires untold { D.tells → ⊥ }
+{
+    let file = path_of(alloc, file)?;
+    let Some(len) = dir.size(alloc, &file)? else {
+        return Err(BenchFault::Usage);
+    };
+    if length == 0 || length > 1 << 60 {
+        return Err(BenchFault::Usage);
+    }
+    let splits = split_table(alloc, len, length)?;
+    for (number, split) in splits.iter().enumerate() {
+        write_split(alloc, dir, &file, split, number)?;
+    }
+    Ok(())
+}
+
+/// Makes the input of a job's one reduce task out of a file.
+fn shuffle_file<D: Dir>(
+    alloc: Global,
+    dir: &mut D,
+    file: &[u8],
+    limit: u64,
+) -> Result<(), BenchFault>
+    requires lent { D.lent dir.old ≡ [] }
+    requires untold { D.tells → ⊥ }
+{
+    let outputs = vec![in alloc; path_of(alloc, file)?].map_err(|_| BenchFault::NoMemory)?;
+    let folder = path_of(alloc, b"job")?;
+    shuffle(alloc, dir, &folder, &outputs, 1, limit)?;
+    Ok(())
+}
+
+/// Runs a whole job of one part over a file, in splits of this length.
+fn run_on_file<S: Site>(
+    alloc: Global,
+    site: &mut S,
+    file: &[u8],
+    limit: u64,
+    length: u64,
+) -> Result<(), BenchFault>
+    requires none_running { (S.seen site.old).running ≡ [] }
+    requires untold { S.tells → ⊥ }
+{
+    let mut map = Words::new(alloc);
+    map.push(alloc, "pegchild")?;
+    map.push(alloc, "id")?;
+    if map.is_empty() || length == 0 || length > 1 << 60 {
+        return Err(BenchFault::Usage);
+    }
+    let reduce = map.copy(alloc)?;
+    let inputs = vec![in alloc; path_of(alloc, file)?].map_err(|_| BenchFault::NoMemory)?;
+    let spec = JobSpec {
+        folder: path_of(alloc, b"job")?,
+        inputs,
+        map,
+        reduce,
+        reducers: 1,
+        split: length,
+        slots: 4,
+        spill: limit,
+    };
+    run_job(alloc, site, &spec)?;
+    Ok(())
+}
+
+/// The number that a word says.
+fn number_of(word: &str) -> Result<u64, BenchFault> {
+    read_decimal(word.as_bytes()).ok_or(BenchFault::Usage)
+}
+
+/// Carries out a part that starts no children.
+fn run_alone(
+    rt: &HostRuntime,
+    alloc: Global,
+    part: &str,
+    work: &str,
+    file: &[u8],
+    number: u64,
+) -> Result<(), BenchFault> {
+    let mut site = HostSite::new(rt, alloc, work, "pegchild")?;
+    match part {
+        "split" => split_file(alloc, &mut site, file, number),
+        "shuffle" => shuffle_file(alloc, &mut site, file, number),
+        _ => Err(BenchFault::Usage),
+    }
+}
+
+/// Carries out the part that the words name.
+fn run(rt: &HostRuntime, alloc: Global, words: &[String]) -> Result<(), BenchFault> {
+    match words {
+        [part, work, file, number] => {
+            let number = number_of(number.as_str())?;
+            run_alone(
+                rt,
+                alloc,
+                part.as_str(),
+                work.as_str(),
+                file.as_bytes(),
+                number,
+            )
+        }
+        [part, work, file, limit, child, length] if part.as_str() == "job" => {
+            let mut site = HostSite::new(rt, alloc, work.as_str(), child.as_str())?;
+            let limit = number_of(limit.as_str())?;
+            let length = number_of(length.as_str())?;
+            run_on_file(alloc, &mut site, file.as_bytes(), limit, length)
+        }
+        _ => Err(BenchFault::Usage),
+    }
+}
+
+fn main(rt: HostRuntime) -> ExitCode {
+    let alloc = rt.alloc();
+    let _held = HeldStreams::new(&rt);
+    let Ok(words) = program_words(&rt, alloc) else {
+        return ExitCode::from(70);
+    };
+    match run(&rt, alloc, &words) {
+        Ok(()) => ExitCode::SUCCESS,
+        Err(BenchFault::Usage) => {
+            let _ = rt.stderr().write_all(HELP.as_bytes());
+            ExitCode::from(2)
+        }
+        Err(BenchFault::Task) => ExitCode::from(5),
+        Err(BenchFault::Disk) => ExitCode::from(74),
+        Err(BenchFault::NoMemory) => ExitCode::from(70),
+    }
+}
