@@ -6,7 +6,6 @@ use Rattle.peg_base.proofs.Under.{same_path-refl}
 use Rattle.dir_disk.specs.State.{Member, Gone, Exactly, Anything, Content, Allows, Held, State, IsSound, just, appended, removed_from, removed, moved_to}
 use Rattle.dir_disk.specs.Calls.{Call, Look, Append, Move, Remove, Settle, after, after_fault, may_change}
 use Rattle.dir_disk.specs.Examples.{AppendedMayBeAnything, MovedUnsettledMayBeAnything, SettledIsThere, MovedMayBeAtEitherOrNone, RemovedMayBeThere, RemovedAndSettledIsGone, SettledFolderIsThere, MovedFolderTakesAll, ArrivesAsItWas, FailsInAnyPart, FailedAppendMayBeAnything, FitsBetween, MixesWithin, StaysSound, CallMakesFresh, StartedMayLeaveAnything, StartLeavesOthers, EndLeavesOthers}
-use Rattle.dir_disk.specs.Children.{OnlyAt, after_start}
 use Rattle.dir_disk.proofs.Sound.{sound_after}
 use Rattle.dir_disk.proofs.Says.{fresh_call, clock_on}
 use Rattle.dir_disk.proofs.Steps.{after_others, appended_at}

@@ -64,6 +64,10 @@ abbrev pub just : Content → Member
 just None = Gone
 just (Some bytes) = Exactly bytes
 
+-- the bytes that stand at the path
+abbrev pub bytes_at : State → Names → List ℕ
+bytes_at state path = bytes_of (state path).now
+
 abbrev pub appended : List ℕ → Held → Held
 appended bytes held = record { now = Some (bytes_of held.now ++ bytes); may = Anything ∷ held.may }
 

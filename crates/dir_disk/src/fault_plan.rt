@@ -21,7 +21,7 @@ impl Model for FaultPlan {
 
 impl FaultPlan {
     ghost use Rattle.std.specs.Prelude.{◌≡◌, ◌≤◌};
-    ghost use Rattle.std.specs.Bool.{OnTrue};
+    ghost use Rattle.std.specs.Bool.{OnTrue, OnFalse};
     ghost use Rattle.dir_disk.specs.Causes.{Rose};
     ghost use Rattle.dir_disk.specs.FaultPlan.{counted, is_due, planned};
 
@@ -49,6 +49,7 @@ impl FaultPlan {
         ensures counted { self.new ≡ counted self.old }
         ensures later { self.old.faults ≤ self.new.faults }
         ensures rose { OnTrue result (Rose self.old.faults self.new.faults) }
+        ensures same { OnFalse result (self.new.faults ≡ self.old.faults) }
     {
         let due = self.fail.contains(&self.calls);
         self.calls = self.calls.saturating_add(1);

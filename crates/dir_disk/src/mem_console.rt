@@ -58,6 +58,8 @@ impl Console for MemConsole {
         ensures part { AddsPart (Some self.old.bytes) (Some self.new.bytes) bytes.now }
         ensures no_memory { IsErrOf result SayFault.NoMemory → Some self.new.bytes ≡ Some self.old.bytes }
         ensures cause { HasCause SayFault.Failed self.old.plan.faults self.new.plan.faults result }
+        ensures steady { OnOk result (self.new.plan.faults ≡ self.old.plan.faults) }
+        ensures uncounted { IsErrOf result SayFault.NoMemory → self.new.plan.faults ≡ self.old.plan.faults }
 
         // It fails just where it is told, and then says nothing.
         ensures fails { (result ≡ Err SayFault.Failed) ↔ IsTrue (is_due self.old.plan) }

@@ -52,6 +52,8 @@ impl Sink for MemSink {
         ensures part { AddsPart (Some self.old.bytes) (Some self.new.bytes) bytes.now }
         ensures no_memory { IsErrOf result SinkFault.NoMemory → Some self.new.bytes ≡ Some self.old.bytes }
         ensures cause { HasCause SinkFault.Failed self.old.plan.faults self.new.plan.faults result }
+        ensures steady { OnOk result (self.new.plan.faults ≡ self.old.plan.faults) }
+        ensures uncounted { IsErrOf result SinkFault.NoMemory → self.new.plan.faults ≡ self.old.plan.faults }
 
         // It fails just where it is told, and then writes nothing.
         ensures fails { (result ≡ Err SinkFault.Failed) ↔ IsTrue (is_due self.old.plan) }

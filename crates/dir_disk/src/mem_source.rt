@@ -1,4 +1,4 @@
-ghost use Rattle.std.specs.Prelude.{◌≡◌, ◌≤◌, ◌↔◌, [], Some, Err, length, min, take, IfOk, OnErr, IsTrue};
+ghost use Rattle.std.specs.Prelude.{◌≡◌, ◌≤◌, ◌↔◌, [], Some, Err, length, min, take, IfOk, OnOk, OnErr, IsErrOf, IsTrue};
 ghost use Rattle.dir_disk.specs.Causes.{HasCause};
 ghost use Rattle.dir_disk.specs.FaultPlan.{counted, is_due, planned};
 ghost use Rattle.dir_disk.specs.Streams.{AtEnd, onto};
@@ -55,10 +55,13 @@ impl Source for MemSource {
         ensures end { IfOk result (λ bytes. bytes.items ≡ [] → AtEnd (Some self.new.left)) }
         ensures err { OnErr result (Some self.new.left ≡ Some self.old.left) }
         ensures cause { HasCause SourceFault.Failed self.old.plan.faults self.new.plan.faults result }
+        ensures steady { OnOk result (self.new.plan.faults ≡ self.old.plan.faults) }
+        ensures uncounted { IsErrOf result SourceFault.NoMemory → self.new.plan.faults ≡ self.old.plan.faults }
 
         // It fails just where it is told, and gives as much as it may.
         ensures fails { (result ≡ Err SourceFault.Failed) ↔ IsTrue (is_due self.old.plan) }
         ensures counts { self.new.plan ≡ counted self.old.plan }
+        ensures same { self.new.piece ≡ self.old.piece }
         ensures piece { IfOk result (λ bytes. bytes.items ≡ take (min self.old.piece max) self.old.left) }
     {
         if self.plan.fails_next() {

@@ -29,7 +29,9 @@ pub trait Source {
         ensures next { IfOk result (λ bytes. left self.old ≡ onto bytes.items (left self.new)) }
         ensures end { IfOk result (λ bytes. bytes.items ≡ [] → AtEnd (left self.new)) }
         ensures err { OnErr result (left self.new ≡ left self.old) }
-        ensures cause { HasCause SourceFault.Failed (faults self.old) (faults self.new) result };
+        ensures cause { HasCause SourceFault.Failed (faults self.old) (faults self.new) result }
+        ensures steady { OnOk result (faults self.new ≡ faults self.old) }
+        ensures uncounted { IsErrOf result SourceFault.NoMemory → faults self.new ≡ faults self.old };
 }
 
 /// Why a [`Sink`] didn't take all bytes.
@@ -54,7 +56,9 @@ pub trait Sink {
         ensures ok { OnOk result (written self.new ≡ added (written self.old) bytes.now) }
         ensures part { AddsPart (written self.old) (written self.new) bytes.now }
         ensures no_memory { IsErrOf result SinkFault.NoMemory → written self.new ≡ written self.old }
-        ensures cause { HasCause SinkFault.Failed (faults self.old) (faults self.new) result };
+        ensures cause { HasCause SinkFault.Failed (faults self.old) (faults self.new) result }
+        ensures steady { OnOk result (faults self.new ≡ faults self.old) }
+        ensures uncounted { IsErrOf result SinkFault.NoMemory → faults self.new ≡ faults self.old };
 }
 
 /// Why a [`Console`] didn't say all bytes.
@@ -93,5 +97,7 @@ pub trait Console {
         ensures no_memory { IsErrOf result SayFault.NoMemory → said self.new ≡ said self.old }
         ensures says { says self.new ≡ with_say bytes.now (moment self.old) result (says self.old) }
         ensures beside { beside self.new ≡ beside self.old }
-        ensures cause { HasCause SayFault.Failed (say_faults self.old) (say_faults self.new) result };
+        ensures cause { HasCause SayFault.Failed (say_faults self.old) (say_faults self.new) result }
+        ensures steady { OnOk result (say_faults self.new ≡ say_faults self.old) }
+        ensures uncounted { IsErrOf result SayFault.NoMemory → say_faults self.new ≡ say_faults self.old };
 }

@@ -1,4 +1,5 @@
 pub mod Names
 pub mod NameText
 pub mod Order
+pub mod Tasks
 pub mod WordText
