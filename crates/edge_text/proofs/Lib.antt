@@ -6,3 +6,4 @@ pub mod PlainLemmas
 pub mod RecordLoopLemmas
 pub mod SofarLemmas
 pub mod TakeLemmas
+pub mod WrittenLemmas

@@ -91,7 +91,7 @@ module _ (ds es cr : List ℕ) (first : list_all is_ascii_digit ds ≡ true) (se
   no_tab : HasNoTab ds
   no_tab = digits_avoid 9 ds first (inl (omega arith))
 
-  verdict_of-plain : (n : ℕ) → 0 < length ds → length ds ≤ 10 → 0 < length es → length es ≤ 10 → verdict_of n (pair_text ds es ++ cr) ≡ pair_verdict n (Some (digits_value 10 ds)) (Some (digits_value 10 es))
+  pub verdict_of-plain : (n : ℕ) → 0 < length ds → length ds ≤ 10 → 0 < length es → length es ≤ 10 → verdict_of n (pair_text ds es ++ cr) ≡ pair_verdict n (Some (digits_value 10 ds)) (Some (digits_value 10 es))
   verdict_of-plain n some few some' few' =
       let parts = pairs_split_back ds es no_tab in
       ap (said_verdict n) (stripped some') ∙ cond-false _ _ _ (says_something ds (9 ∷ es) first some) ∙ ap (λ k. pair_verdict n (id_of k) (id_of (value_of (pair_text ds es)))) parts.0 ∙ ap (λ v. pair_verdict n (id_of ds) (id_of v)) parts.1 ∙ ap (λ s. pair_verdict n s (id_of es)) (id_of-digits ds first some few) ∙ ap (pair_verdict n (Some (digits_value 10 ds))) (id_of-digits es second some' few')
@@ -103,7 +103,7 @@ module _ (ds es cr : List ℕ) (first : list_all is_ascii_digit ds ≡ true) (se
         | inr is ↦ subst HasNoLf (sym is) (All-cons (λ b. b ≢ 10) 13 [] (λ same. absurd (omega arith)) (All-nil (λ b. b ≢ 10)))
       ]
 
-  unbroken : HasNoLf (pair_text ds es ++ cr)
+  pub unbroken : HasNoLf (pair_text ds es ++ cr)
   unbroken =
       All-append (λ b. b ≢ 10) (pair_text ds es) cr (All-append (λ b. b ≢ 10) ds (9 ∷ es) (digits_avoid 10 ds first (inl (omega arith))) (All-cons (λ b. b ≢ 10) 9 es (λ same. absurd (omega arith)) (digits_avoid 10 es second (inl (omega arith))))) no_lf_in_cr
 

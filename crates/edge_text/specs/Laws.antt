@@ -1,8 +1,9 @@
 -- What holds of edge lists and readers as a whole.
-use Rattle.std.specs.Prelude.{◌≡◌, ℕ, List, ◌++◌}
+use Rattle.std.specs.Prelude.{◌≡◌, ℕ, ◌^◌, ◌≤◌, List, ◌++◌, None, length}
 use Rattle.std.specs.List.{concat}
+use Rattle.graph.specs.declared.edges.Edge.{Edge}
 use Rattle.graph.specs.Edges.{AreBelow}
-use Rattle.edge_text.specs.Edges.{edges_so_far, edges_of}
+use Rattle.edge_text.specs.Edges.{edges_so_far, edges_of, most_bytes, text_of}
 use Rattle.edge_text.specs.Feeding.{State, begun, fed, fed_edges, fault_of, nodes_of, ended_edges, reading_in_pieces}
 
 -- however an edge list is cut into pieces, a reader reads its edges and its refusal
@@ -26,3 +27,9 @@ ReadsWholeRecords =
 abbrev pub AcceptedAreBelow : Type 0
 AcceptedAreBelow =
     (s : State) (piece : List ℕ) → AreBelow (nodes_of s) (fed_edges s piece) × AreBelow (nodes_of s) (ended_edges s)
+
+-- the lines that are written for edges are read as these edges, where the ids have at most 32 bits and the lines aren't too long
+abbrev pub WrittenIsRead : Type 0
+WrittenIsRead =
+    (n : ℕ) (edges : List Edge) → n ≤ 2 ^ 32 → AreBelow n edges → length (text_of edges) ≤ most_bytes
+    → edges_of n (text_of edges) ≡ record { edges = edges; refusal = None }

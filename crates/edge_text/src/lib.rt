@@ -15,3 +15,4 @@ mod verdict;
 pub use fault::EdgeFault;
 pub use graph::Edge;
 pub use reader::EdgeReader;
+pub use text::write_edge;

@@ -34,7 +34,7 @@ fn append_edges(alloc: Global, text: &mut Vec<u8>, edges: &[Edge]) -> Result<(),
 }
 
 /// Appends an edge as a line. Without memory the text is as before.
-fn write_edge(alloc: Global, text: &mut Vec<u8>, edge: &Edge) -> Result<(), NoMemory>
+pub fn write_edge(alloc: Global, text: &mut Vec<u8>, edge: &Edge) -> Result<(), NoMemory>
     ensures ok { OnOk result (text.new.items ≡ text.old.items ++ line_of edge.now) }
     ensures no_memory { OnErr result (text.new.items ≡ text.old.items) }
 {
