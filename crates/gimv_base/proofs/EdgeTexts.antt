@@ -1,5 +1,5 @@
 -- An edge's entries from the texts of its nodes.
-use Rattle.std.proofs.Common.{◌≡◌, ℕ, Bool, List, [], ◌∷◌, ◌++◌, Option, Some, None, option_map, cond, decimal, ap, ◌∙◌, arith}
+use Rattle.std.proofs.Common.{◌≡◌, ℕ, Bool, List, [], ◌++◌, Option, Some, None, option_map, cond, decimal, ap, ◌∙◌, arith}
 use Rattle.std.proofs.lemmas.Fmt.{decimal_digit}
 use Rattle.graph.specs.declared.edges.Edge.{Edge}
 use Rattle.gimv_base.specs.BaseRules.{edge_entries}

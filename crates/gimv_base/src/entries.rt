@@ -1,5 +1,4 @@
-ghost use Rattle.std.specs.Prelude.{◌≡◌, ◌+◌, ◌≤◌, ◌++◌, length, OnOk, OnErr};
-ghost use Rattle.std.specs.Vec.{vec_capacity, vec_len};
+ghost use Rattle.std.specs.Prelude.{◌≡◌, ◌+◌, ◌≤◌, ◌*◌, ◌++◌, length, take, if◌then◌else◌, OnOk, OnErr};
 ghost use Rattle.gimv_base.specs.BaseRules.{entries_rule};
 ghost use Rattle.gimv_base.specs.EdgeTexts.{unit_entries, unit_entry};
 ghost use Rattle.gimv_base.specs.Standings.{fresh};
@@ -8,6 +7,9 @@ use crate::records::edge_texts;
 use crate::role::{Role, RoleFault};
 use peg_text::NoMemory;
 use std::alloc::Global;
+
+/// How many bytes of an entry of weight 1 are neither its column nor its row: TAB, W, a blank, a blank, 1 and LF.
+const MARKS: usize = 6;
 
 /// `entries one` and `entries both`: the entry of each edge, by its column, and that of the edge turned round.
 #[derive(Clone, Copy, Debug, PartialEq, Eq)]
@@ -52,36 +54,40 @@ fn append_entries(
     ensures ok { OnOk result (out.new.items ≡ out.old.items ++ unit_entries both source.now target.now) }
     ensures err { OnErr result (out.new.items ≡ out.old.items) }
 {
-    // The room for both is made at once: a test at each part costs more than writing it.
-    out.reserve(2 * (source.len() + target.len() + 6))?;
-    push_unit_entry(out, target, source);
-    if both {
-        push_unit_entry(out, source, target);
-    }
+    let before = out.len();
+    let size = source.len() + target.len() + MARKS;
+    // Texts are copied into room of their length: appended one by one, each would test and store how long the list is.
+    out.resize(before + if both { 2 * size } else { size }, 0)?;
+    write_unit_entries(out, before, source, target, both);
     Ok(())
 }
 
-/// Appends an entry of weight 1, by its column, from the texts of its column and its row. There is room for it.
-fn push_unit_entry(out: &mut Vec<u8>, column: &[u8], row: &[u8])
-    requires room { vec_len out.old + (length column.now + length row.now + 6) ≤ vec_capacity out.old }
-    ensures items { out.new.items ≡ out.old.items ++ unit_entry column.now row.now }
-    ensures len { vec_len out.new ≡ vec_len out.old + (length column.now + length row.now + 6) }
-    ensures capacity { vec_capacity out.new ≡ vec_capacity out.old }
+/// Fills what follows the first `before` bytes with the entries of an edge, from the texts of its source and its target.
+fn write_unit_entries(list: &mut [u8], before: usize, source: &[u8], target: &[u8], both: bool)
+    requires short { (length source.now ≤ 20) × (length target.now ≤ 20) }
+    requires room { length list.old ≡ before + (if both then 2 * (length source.now + length target.now + 6) else length source.now + length target.now + 6) }
+    ensures { list.new ≡ take before list.old ++ unit_entries both source.now target.now }
 {
-    push_text(out, column);
-    push_text(out, b"\tW ");
-    push_text(out, row);
-    push_text(out, b" 1\n");
+    let size = source.len() + target.len() + MARKS;
+    let (_, room) = list.split_at_mut(before);
+    let (entry, turned) = room.split_at_mut(size);
+    write_unit_entry(entry, target, source);
+    if both {
+        write_unit_entry(turned, source, target);
+    }
 }
 
-/// Appends a text. There is room for it.
-fn push_text(out: &mut Vec<u8>, text: &[u8])
-    requires room { vec_len out.old + length text.now ≤ vec_capacity out.old }
-    ensures items { out.new.items ≡ out.old.items ++ text.now }
-    ensures len { vec_len out.new ≡ vec_len out.old + length text.now }
-    ensures capacity { vec_capacity out.new ≡ vec_capacity out.old }
+/// Fills the room with an entry of weight 1, by its column, from the texts of its column and its row.
+fn write_unit_entry(room: &mut [u8], column: &[u8], row: &[u8])
+    requires { length room.old ≡ length column.now + length row.now + 6 }
+    ensures { room.new ≡ unit_entry column.now row.now }
 {
-    for byte in text {
-        out.push_reserved(*byte);
-    }
+    let tag = b"\tW ";
+    let (for_column, rest) = room.split_at_mut(column.len());
+    let (for_tag, rest) = rest.split_at_mut(tag.len());
+    let (for_row, for_weight) = rest.split_at_mut(row.len());
+    for_column.copy_from_slice(column);
+    for_tag.copy_from_slice(tag);
+    for_row.copy_from_slice(row);
+    for_weight.copy_from_slice(b" 1\n");
 }

@@ -20,9 +20,10 @@ pub fn without_leading_zeros(text: &[u8]) -> &[u8]
     ensures is { IfSome (decimal_of text.now) (λ number. result.now ≡ decimal number) }
     ensures short { IfSome (decimal_of text.now) (λ _. length result.now ≤ 20) }
 {
-    let mut zeros = 0;
     // The last digit stays, since the number 0 has one too.
-    while zeros + 1 < text.len() && text[zeros] == b'0' {
+    let last = text.len().saturating_sub(1);
+    let mut zeros = 0;
+    while zeros < last && text[zeros] == b'0' {
         zeros += 1;
     }
     &text[zeros..]

@@ -199,10 +199,11 @@ fn close_open<F: Grouping>(
     }
 }
 
-/// Makes this the content of the list. Without memory the list is as before.
+/// Makes this the content of the list. Without memory the list is empty.
 fn replace(list: &mut Vec<u8>, content: &[u8]) -> Result<(), RoleFault>
     ensures ok { OnOk result (list.new.items ≡ content.now) }
     ensures no_memory { OnErr result (result ≡ Err RoleFault.NoMemory) }
+    ensures emptied { OnErr result (list.new.items ≡ []) }
 {
     list.clear();
     list.extend_from_slice(content)?;
