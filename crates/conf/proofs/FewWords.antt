@@ -9,7 +9,7 @@ use Rattle.conf.specs.declared.commands.Command.{Command}
 use Rattle.conf.specs.declared.settings.Setting.{Setting}
 use Rattle.conf.specs.declared.settings.Setting.TheVariants.{Gen}
 use Rattle.conf.specs.Settings.{settings}
-use Rattle.conf.specs.Words.{is_first, place_of}
+use Rattle.conf.specs.Options.{is_first, place_of}
 use Rattle.conf.specs.Rules.{AreAccepted, command_of, gives, is_bad_option, clashes, is_refused, refuses_option, refuses_word}
 
 -- the place of the first element that passes

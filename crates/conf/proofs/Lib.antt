@@ -1,2 +1,3 @@
 pub mod FewWords
 pub mod TextLemmas
+pub mod LimitLemmas

@@ -1,15 +1,11 @@
 -- The commands, the forms, and the words that name them.
-use Rattle.std.specs.Prelude.{ℕ, Bool, true, false, ◌&&◌, List, [], ◌∷◌, Option, codes, nat_eq}
+use Rattle.std.specs.Prelude.{ℕ, Bool, true, false, ◌&&◌, List, [], ◌∷◌, Option, codes}
 use Rattle.std.specs.List.{find}
-use Rattle.std.specs.Cmp.Lexicographic.{pointwise}
+use Rattle.words.specs.Words.{is_word}
 use Rattle.conf.specs.declared.commands.Command.{Command}
 use Rattle.conf.specs.declared.commands.Command.TheVariants.{Plain, Hcc, Hadi, PageRank}
 use Rattle.conf.specs.declared.commands.Form.{Form}
 use Rattle.conf.specs.declared.commands.Form.TheVariants.{Base, Block, Clustered, Diagonal}
-
--- whether a word is this text
-abbrev pub is_word : List ℕ → List ℕ → Bool
-is_word word text = pointwise nat_eq word text
 
 abbrev pub commands : List Command
 commands = Plain ∷ Hcc ∷ Hadi ∷ PageRank ∷ []

@@ -1,8 +1,10 @@
--- What the text of a conf tells of it.
-use Rattle.std.specs.Prelude.{◌≡◌, ◌≢◌, ◌↔◌, ◌^◌, ◌<◌}
+-- What the text of a conf tells of it, and what every conf that words mean keeps to.
+use Rattle.std.specs.Prelude.{◌≡◌, ◌≢◌, ℕ, ◌↔◌, ◌^◌, ◌<◌, List}
 use Rattle.conf.specs.declared.commands.Command.TheVariants.{Hadi, PageRank}
 use Rattle.conf.specs.declared.commands.Form.TheVariants.{Base}
 use Rattle.conf.specs.declared.reading.Conf.{Conf}
+use Rattle.conf.specs.Limits.{IsWithinLimits}
+use Rattle.conf.specs.Meaning.{Mean}
 use Rattle.conf.specs.Texts.{text_of}
 
 -- the numbers are those of the types of a conf's fields
@@ -32,3 +34,7 @@ pub record ShowTheSame (a b : Conf) : Type 0 where
 -- two confs have one text exactly where they are the same in all that it shows
 abbrev pub TextsTellConfs : Type 0
 TextsTellConfs = (a b : Conf) → FitsTypes a → FitsTypes b → (text_of a ≡ text_of b) ↔ ShowTheSame a b
+
+-- what accepted words mean is within the limits of each setting
+abbrev pub MeaningsAreWithinLimits : Type 0
+MeaningsAreWithinLimits = (words : List (List ℕ)) (conf : Conf) → Mean words conf → IsWithinLimits conf

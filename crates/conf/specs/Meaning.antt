@@ -7,7 +7,7 @@ use Rattle.conf.specs.declared.settings.Number.{Number}
 use Rattle.conf.specs.declared.settings.Number.TheVariants.{Nodes, Reducers, Split, Slots, Spill, BlockLength, Iters, Hops, Seed}
 use Rattle.conf.specs.declared.settings.Setting.TheVariants.{Numeric, Gen, Sym}
 use Rattle.conf.specs.Settings.{choice_in, default_of, generator_in, number_for}
-use Rattle.conf.specs.Words.{value_of}
+use Rattle.conf.specs.Options.{value_of}
 use Rattle.conf.specs.Rules.{AreAccepted, command_of, form_of}
 
 -- the number that the words give an option, and its default where none of them gives it one

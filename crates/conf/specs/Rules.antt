@@ -2,15 +2,16 @@
 use Rattle.std.specs.Prelude.{◌≡◌, ℕ, ◌^◌, ◌<◌, ◌==◌, Bool, true, false, not, ◌||◌, ◌&&◌, List, [], ◌∷◌, Option, Some, None, option_and_then, is_some, length, codes, nat_lt, if◌then◌else◌}
 use Rattle.std.specs.Option.{option_map_or}
 use Rattle.std.specs.List.{list_any}
+use Rattle.words.specs.Words.{is_word, word_at}
 use Rattle.conf.specs.declared.commands.Command.{Command}
 use Rattle.conf.specs.declared.commands.Form.{Form}
 use Rattle.conf.specs.declared.commands.Form.TheVariants.{Base, Block, Clustered, Diagonal}
 use Rattle.conf.specs.declared.settings.Number.TheVariants.{Nodes, BlockLength}
 use Rattle.conf.specs.declared.settings.Setting.{Setting}
 use Rattle.conf.specs.declared.settings.Setting.TheVariants.{Numeric, Gen, FormName}
-use Rattle.conf.specs.Commands.{command_named, form_named, is_mining, is_word}
+use Rattle.conf.specs.Commands.{command_named, form_named, is_mining}
 use Rattle.conf.specs.Settings.{has_setting, is_value, number_for, settings}
-use Rattle.conf.specs.Words.{is_first, place_of, value_in, value_of, word_at}
+use Rattle.conf.specs.Options.{is_first, place_of, value_in, value_of}
 
 -- the command, where word 2 names one
 abbrev pub command_of : List (List ℕ) → Option Command

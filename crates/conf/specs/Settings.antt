@@ -1,13 +1,14 @@
 -- The options, the commands that take them, and the values that they take.
 use Rattle.std.specs.Prelude.{ℕ, ◌+◌, ◌-◌, ◌^◌, ◌==◌, Bool, true, false, ◌&&◌, List, [], ◌∷◌, Option, Some, None, option_and_then, option_map, is_some, position, take, drop, codes, nat_le, if◌then◌else◌}
 use Rattle.peg_text.specs.Decimal.{decimal_of}
+use Rattle.words.specs.Words.{is_word, number_between}
 use Rattle.conf.specs.declared.commands.Command.{Command}
 use Rattle.conf.specs.declared.commands.Command.TheVariants.{Plain, Hcc, Hadi, PageRank}
 use Rattle.conf.specs.declared.settings.Number.{Number}
 use Rattle.conf.specs.declared.settings.Number.TheVariants.{Nodes, Reducers, Split, Slots, Spill, BlockLength, Iters, Hops, Seed}
 use Rattle.conf.specs.declared.settings.Setting.{Setting}
 use Rattle.conf.specs.declared.settings.Setting.TheVariants.{Numeric, Gen, FormName, Sym}
-use Rattle.conf.specs.Commands.{is_mining, is_word, form_named}
+use Rattle.conf.specs.Commands.{is_mining, form_named}
 
 abbrev pub settings : List Setting
 settings =
@@ -90,15 +91,9 @@ default_of Iters = 10
 default_of Hops = 64
 default_of Seed = 1
 
--- the number that a text writes, if it is in these limits
-abbrev pub within : ℕ → ℕ → ℕ → Option ℕ
-within least most n = if nat_le least n && nat_le n most then Some n else None
-
-abbrev pub number_in : ℕ → ℕ → List ℕ → Option ℕ
-number_in least most text = option_and_then (within least most) (decimal_of text)
-
+-- the number that a text writes, if it is in the limits of the option
 abbrev pub number_for : Number → List ℕ → Option ℕ
-number_for number text = number_in (least_of number) (most_of number) text
+number_for number text = number_between (least_of number) (most_of number) text
 
 -- the most edges that can be generated
 abbrev pub most_edges : ℕ
@@ -109,7 +104,7 @@ abbrev pub generator_at : List ℕ → ℕ → Option (ℕ × ℕ)
 generator_at text colon =
     option_and_then
     (λ edges. option_map (λ seed. (edges, seed)) (decimal_of (drop (colon + 1) text)))
-    (number_in 0 most_edges (take colon text))
+    (number_between 0 most_edges (take colon text))
 
 -- the place of the first colon
 abbrev pub colon_of : List ℕ → Option ℕ

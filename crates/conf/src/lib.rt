@@ -3,11 +3,11 @@
 
 mod commands;
 pub mod laws;
+mod options;
 mod reading;
 mod rules;
 mod settings;
 mod text;
-mod words;
 
 pub use commands::{Command, Form};
 pub use reading::{Conf, Usage, read_words};

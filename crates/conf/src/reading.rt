@@ -5,9 +5,9 @@ ghost use Rattle.conf.specs.Rules.{AreAccepted, IsLeastRefused, form_of};
 ghost use Rattle.conf.specs.Settings.{most_of};
 
 use crate::commands::{Command, Form};
+use crate::options::value_of;
 use crate::rules::{command_of, form_of, lacks_word, refuses_word};
 use crate::settings::{Number, Setting, read_choice, read_generator};
-use crate::words::value_of;
 
 /// What the words of the command line say, with the default where they don't say it.
 #[derive(Clone, Copy, Debug, PartialEq, Eq)]

@@ -3,8 +3,9 @@ ghost use Rattle.std.specs.String.{string_bytes};
 ghost use Rattle.conf.specs.Rules.{clashes, command_of, form_of, gives, has_gen, has_many_nodes, has_small_limit, is_bad_option, lacks_word, names_file, refuses_option, refuses_word};
 
 use crate::commands::{Command, Form};
+use crate::options::{is_first, place_of, value_in, value_of};
 use crate::settings::{Number, Setting};
-use crate::words::{bytes_at, is_first, place_of, value_in, value_of};
+use words::bytes_at;
 
 /// All options.
 const SETTINGS: [Setting; 12] = [

@@ -1,8 +1,9 @@
 ghost use Rattle.std.specs.Prelude.{◌≡◌, ◌<◌, IfSome, length};
-ghost use Rattle.conf.specs.Settings.{choice_in, colon_of, default_of, generator_in, has_setting, is_value, least_of, most_of, number_for, number_in, prefix_of};
+ghost use Rattle.conf.specs.Settings.{choice_in, colon_of, default_of, generator_in, has_setting, is_value, least_of, most_of, number_for, prefix_of};
 
 use crate::commands::{Command, Form};
 use peg_text::read_decimal;
+use words::number_between;
 
 /// An option whose value is a number.
 #[derive(Clone, Copy, Debug, PartialEq, Eq)]
@@ -89,7 +90,7 @@ impl Number {
     pub fn read(self, text: &[u8]) -> Option<u64>
         ensures { result ≡ number_for self text.now }
     {
-        read_number(text, self.least(), self.most())
+        number_between(self.least(), self.most(), text)
     }
 }
 
@@ -141,17 +142,6 @@ impl Setting {
     }
 }
 
-/// The number that a text writes, if it is from `least` to `most`.
-fn read_number(text: &[u8], least: u64, most: u64) -> Option<u64>
-    ensures { result ≡ number_in least most text.now }
-{
-    let number = read_decimal(text)?;
-    if number < least || number > most {
-        return None;
-    }
-    Some(number)
-}
-
 /// The place of the first colon.
 fn colon_in(text: &[u8]) -> Option<usize>
     ensures place { result ≡ colon_of text.now }
@@ -165,7 +155,7 @@ pub fn read_generator(text: &[u8]) -> Option<(u64, u64)>
     ensures { result ≡ generator_in text.now }
 {
     let colon = colon_in(text)?;
-    let edges = read_number(&text[..colon], 0, MOST_EDGES)?;
+    let edges = number_between(0, MOST_EDGES, &text[..colon])?;
     let seed = read_decimal(&text[colon + 1..])?;
     Some((edges, seed))
 }

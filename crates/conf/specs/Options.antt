@@ -1,19 +1,13 @@
--- The words of the command line, numbered from 0: WORK EDGES COMMAND and options.
+-- Where the words of the command line give an option. They are numbered from 0: WORK EDGES COMMAND and options.
 use Rattle.std.specs.Prelude.{ℕ, ◌+◌, ◌==◌, Bool, false, List, [], ◌∷◌, Option, Some, None, option_and_then, is_some, length, take, drop, slice_index_or, if◌then◌else◌}
 use Rattle.std.specs.Option.{option_map_or}
+use Rattle.words.specs.Words.{after_prefix, word_at}
 use Rattle.conf.specs.declared.settings.Setting.{Setting}
-use Rattle.conf.specs.Commands.{is_word}
 use Rattle.conf.specs.Settings.{prefix_of}
-
--- a word that isn't there counts as empty
-abbrev pub word_at : List (List ℕ) → ℕ → List ℕ
-word_at words k = slice_index_or words k []
 
 -- the value in a word of this option
 abbrev pub value_in : Setting → List ℕ → Option (List ℕ)
-value_in setting word =
-    if is_word (take (length (prefix_of setting)) word) (prefix_of setting) then Some (drop (length (prefix_of setting)) word)
-    else None
+value_in setting word = after_prefix (prefix_of setting) word
 
 -- the number of the first word of this option among these, of which the first has the number k
 abbrev pub place_from : Setting → ℕ → List (List ℕ) → Option ℕ

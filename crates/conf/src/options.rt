@@ -1,21 +1,12 @@
 ghost use Rattle.std.specs.Prelude.{◌≡◌, map, option_map};
 ghost use Rattle.std.specs.String.{string_bytes};
-ghost use Rattle.conf.specs.Words.{is_first, place_of, value_in, value_of, word_at};
+ghost use Rattle.conf.specs.Options.{is_first, place_of, value_in, value_of};
 
 use crate::settings::Setting;
+use words::bytes_at;
 
 /// The number of the first word that can be an option.
 pub const FIRST_OPTION: usize = 3;
-
-/// The bytes of a word, and none where there is no such word.
-pub fn bytes_at(words: &[String], at: usize) -> &[u8]
-    ensures { result.now ≡ word_at (map string_bytes words.now) at }
-{
-    match words.get(at) {
-        Some(word) => word.as_bytes(),
-        None => b"",
-    }
-}
 
 /// The value in a word of this option.
 pub fn value_in(setting: Setting, word: &[u8]) -> Option<&[u8]>

@@ -1,7 +1,7 @@
 use Rattle.std.proofs.Common.{◌≡◌, map, drop}
 use Rattle.std.specs.String.{string_bytes}
-use Rattle.conf.specs.Words.{place_from, place_of}
-use Rattle.conf.proofs.words.place_of.Given as goal
+use Rattle.conf.specs.Options.{place_from, place_of}
+use Rattle.conf.proofs.options.place_of.Given as goal
 
 abbrev pub invariant-loop-at : goal.invariant-loop-at
 invariant-loop-at l =
