@@ -4,8 +4,8 @@
 mod lines;
 mod outcome;
 mod plain;
+mod plain_words;
 mod reading;
-mod words;
 
 pub use outcome::Outcome;
 pub use plain::run_plain;
