@@ -1,26 +1,19 @@
 -- Which role words name, and what it writes.
-use Rattle.std.specs.Prelude.{ℕ, ◌≤◌, ◌^◌, ⊤, ◌==◌, ◌&&◌, Bool, true, false, List, [], Option, Some, None, option_map, option_and_then, length, take, drop, codes, nat_eq, nat_le, slice_index_or, if◌then◌else◌}
-use Rattle.std.specs.Cmp.Lexicographic.{pointwise}
+use Rattle.std.specs.Prelude.{ℕ, ◌≤◌, ◌^◌, ⊤, ◌==◌, Bool, true, false, List, Option, Some, None, option_map, option_and_then, length, codes, if◌then◌else◌}
 use Rattle.peg_text.specs.Decimal.{decimal_of}
+use Rattle.words.specs.Words.{after_prefix, is_word, number_between, word_at}
 use Rattle.gimv_core.specs.Algebras.{Algebra}
 use Rattle.gimv_base.specs.Rules.{Rule}
 use Rattle.gimv_base.specs.BaseRules.{id_rule, entries_rule, degrees_rule, place_rule, first_rule, stage1_rule, stage2_rule, number_rule}
 use Rattle.hcc.specs.Components.{hcc_algebra}
 use Rattle.pagerank.specs.Ranks.{page_rank_algebra}
 use Rattle.hadi.specs.Hadi.{hadi_algebra}
-use Rattle.child.specs.declared.words.Algorithm.{Algorithm}
-use Rattle.child.specs.declared.words.Algorithm.TheVariants.{Hcc, PageRank, Hadi}
-use Rattle.child.specs.declared.words.NodeRole.{NodeRole}
-use Rattle.child.specs.declared.words.NodeRole.TheVariants.{First, Stage1, Stage2, Number}
-use Rattle.child.specs.declared.words.Kind.{Kind}
-use Rattle.child.specs.declared.words.Kind.TheVariants.{Id, Entries, Degrees, Place, Nodes}
-
--- a word that isn't there counts as empty
-abbrev pub word_at : List (List ℕ) → ℕ → List ℕ
-word_at words k = slice_index_or words k []
-
-abbrev pub is_word : List ℕ → List ℕ → Bool
-is_word word text = pointwise nat_eq word text
+use Rattle.child.specs.declared.kinds.Algorithm.{Algorithm}
+use Rattle.child.specs.declared.kinds.Algorithm.TheVariants.{Hcc, PageRank, Hadi}
+use Rattle.child.specs.declared.kinds.NodeRole.{NodeRole}
+use Rattle.child.specs.declared.kinds.NodeRole.TheVariants.{First, Stage1, Stage2, Number}
+use Rattle.child.specs.declared.kinds.Kind.{Kind}
+use Rattle.child.specs.declared.kinds.Kind.TheVariants.{Id, Entries, Degrees, Place, Nodes}
 
 -- the roles that are one word
 abbrev pub alone : List ℕ → Option Kind
@@ -48,18 +41,15 @@ node_role_of word =
 
 -- the seed that the word `hadi=SEED` gives
 abbrev pub seed_of : List ℕ → Option ℕ
-seed_of word = if is_word (take 5 word) (codes "hadi=") then decimal_of (drop 5 word) else None
+seed_of word = option_and_then decimal_of (after_prefix (codes "hadi=") word)
 
 abbrev pub algorithm_of : List ℕ → Option Algorithm
 algorithm_of word =
     if is_word word (codes "hcc") then Some Hcc else if is_word word (codes "pagerank") then Some PageRank else option_map Hadi (seed_of word)
 
 -- a number of nodes, from 1 to 2^30
-abbrev pub node_count : ℕ → Option ℕ
-node_count n = if nat_le 1 n && nat_le n (2 ^ 30) then Some n else None
-
 abbrev pub node_count_of : List ℕ → Option ℕ
-node_count_of word = option_and_then node_count (decimal_of word)
+node_count_of word = number_between 1 (2 ^ 30) word
 
 abbrev pub over_nodes : List ℕ → List ℕ → List ℕ → Option Kind
 over_nodes role algorithm nodes =

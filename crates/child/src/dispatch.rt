@@ -5,9 +5,9 @@ ghost use Rattle.child.specs.Child.{IsDone, IsFirstBad, IsStreamed, WritesPart};
 ghost use Rattle.child.specs.Judging.{AreTooMany};
 ghost use Rattle.child.specs.Words.{HasNodes, rule_of, rule_of_kind, rule_of_node_role, rule_over_nodes};
 
+use crate::kinds::{Algorithm, Kind, NodeRole, read_kind};
 use crate::run::run_role;
 use crate::status::ChildStatus;
-use crate::words::{Algorithm, Kind, NodeRole, read_kind};
 use dir_disk::{Sink, Source};
 use gimv_base::{
     DegreesRole, EntriesRole, FirstRole, IdRole, NumberRole, PlaceRole, Stage1, Stage2,
@@ -46,7 +46,11 @@ pub fn run_child<I: Source, O: Sink>(
     ensures stream { IfSome (rule_of (map string_bytes words.now)) (λ rule.
         IsStreamed rule (I.left source.old) (I.left source.new) (O.written sink.old) (O.written sink.new)) }
     ensures untouched { result ≡ ChildStatus.Usage → (source.new ≡ source.old) × (sink.new ≡ sink.old) }
+
+    // A count never falls, and it changes only where a fault is answered: want of memory covers none.
     ensures later { (I.faults source.old ≤ I.faults source.new) × (O.faults sink.old ≤ O.faults sink.new) }
+    ensures steady_source { result ≢ ChildStatus.Fault → I.faults source.new ≡ I.faults source.old }
+    ensures steady_sink { result ≢ ChildStatus.Fault → O.faults sink.new ≡ O.faults sink.old }
 {
     match read_kind(words) {
         Some(kind) => run_kind(alloc, kind, source, sink),
@@ -70,6 +74,8 @@ fn run_kind<I: Source, O: Sink>(
     ensures part { WritesPart (rule_of_kind kind) (I.left source.old) (O.written sink.old) (O.written sink.new) }
     ensures stream { IsStreamed (rule_of_kind kind) (I.left source.old) (I.left source.new) (O.written sink.old) (O.written sink.new) }
     ensures later { (I.faults source.old ≤ I.faults source.new) × (O.faults sink.old ≤ O.faults sink.new) }
+    ensures steady_source { result ≢ ChildStatus.Fault → I.faults source.new ≡ I.faults source.old }
+    ensures steady_sink { result ≢ ChildStatus.Fault → O.faults sink.new ≡ O.faults sink.old }
 {
     match kind {
         Kind::Id => run_role(alloc, IdRole::new(), source, sink),
@@ -102,6 +108,8 @@ fn run_over_nodes<I: Source, O: Sink>(
     ensures part { WritesPart (rule_over_nodes role algorithm nodes) (I.left source.old) (O.written sink.old) (O.written sink.new) }
     ensures stream { IsStreamed (rule_over_nodes role algorithm nodes) (I.left source.old) (I.left source.new) (O.written sink.old) (O.written sink.new) }
     ensures later { (I.faults source.old ≤ I.faults source.new) × (O.faults sink.old ≤ O.faults sink.new) }
+    ensures steady_source { result ≢ ChildStatus.Fault → I.faults source.new ≡ I.faults source.old }
+    ensures steady_sink { result ≢ ChildStatus.Fault → O.faults sink.new ≡ O.faults sink.old }
 {
     match algorithm {
         Algorithm::Hcc => run_node_role(alloc, role, Hcc::new(), nodes, source, sink),
@@ -131,6 +139,8 @@ fn run_node_role<G: Gimv + Drop, I: Source, O: Sink>(
     ensures part { WritesPart (rule_of_node_role role (G.algebra algorithm) nodes) (I.left source.old) (O.written sink.old) (O.written sink.new) }
     ensures stream { IsStreamed (rule_of_node_role role (G.algebra algorithm) nodes) (I.left source.old) (I.left source.new) (O.written sink.old) (O.written sink.new) }
     ensures later { (I.faults source.old ≤ I.faults source.new) × (O.faults sink.old ≤ O.faults sink.new) }
+    ensures steady_source { result ≢ ChildStatus.Fault → I.faults source.new ≡ I.faults source.old }
+    ensures steady_sink { result ≢ ChildStatus.Fault → O.faults sink.new ≡ O.faults sink.old }
 {
     match role {
         NodeRole::First => run_role(alloc, FirstRole::new(algorithm, nodes), source, sink),

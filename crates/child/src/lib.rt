@@ -3,11 +3,11 @@
 
 mod dispatch;
 mod feeding;
+mod kinds;
 mod run;
 mod status;
 #[cfg(test)]
 mod tests;
-mod words;
 
 pub use dispatch::run_child;
 pub use status::ChildStatus;

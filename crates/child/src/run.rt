@@ -29,6 +29,8 @@ pub fn run_role<R: Role + Drop, I: Source, O: Sink>(
     ensures part { WritesPart (R.standing role).rule (I.left source.old) (O.written sink.old) (O.written sink.new) }
     ensures stream { IsStreamed (R.standing role).rule (I.left source.old) (I.left source.new) (O.written sink.old) (O.written sink.new) }
     ensures later { (I.faults source.old ≤ I.faults source.new) × (O.faults sink.old ≤ O.faults sink.new) }
+    ensures steady_source { result ≢ ChildStatus.Fault → I.faults source.new ≡ I.faults source.old }
+    ensures steady_sink { result ≢ ChildStatus.Fault → O.faults sink.new ≡ O.faults sink.old }
 {
     let mut feeding = Feeding {
         role,

@@ -1,5 +1,5 @@
 use Rattle.std.proofs.Common.{Option, IfSome, option_map, subst}
-use Rattle.child.specs.declared.words.Kind.{Kind}
+use Rattle.child.specs.declared.kinds.Kind.{Kind}
 use Rattle.child.specs.Child.{IsFirstBad}
 use Rattle.child.specs.Words.{rule_of_kind}
 use Rattle.child.proofs.dispatch.run_child.Goals as goal

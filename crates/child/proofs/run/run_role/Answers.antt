@@ -65,8 +65,8 @@ pieces-preserved g c =
     record {
       run = HasRun-more _ _ _ _ _ _ _ _ _ _ _ c.pieces.invariant.run given feeds said;
       counted = c.in_default.ensures.counted;
-      reads = omega (arith, c.pieces.invariant.reads, c.in-Ok.ensures.cause.later);
-      writes = omega (arith, c.pieces.invariant.writes, c.write.ensures.cause.later);
+      reads = c.in-Ok.ensures.steady ∙ c.pieces.invariant.reads;
+      writes = c.in_default-write.ensures.steady ∙ c.pieces.invariant.writes;
     }
 
 pub returns-in-Err-finish-clause-done : goal.returns-in-Err-finish-clause-done

@@ -1,4 +1,4 @@
-use Rattle.std.proofs.Common.{◌≤◌, ◌-◌}
+use Rattle.std.proofs.Common.{◌≡◌, ◌-◌}
 use Rattle.child.specs.Judging.{most_bytes}
 use Rattle.child.specs.Feeding.{IsCounted, fed_of}
 use Rattle.child.proofs.RunLemmas.{HasRun}
@@ -10,8 +10,8 @@ invariant-pieces g l = record {
       HasRun (g.R.Role.standing l.fn.role).rule (g.I.Source.left l.initial.source) (g.I.Source.left l.source) (g.O.Sink.written l.initial.sink) (g.O.Sink.written l.sink)
       (fed_of g.R.Role.standing l.feeding);
   counted : IsCounted (fed_of g.R.Role.standing l.feeding);
-  reads : g.I.Source.faults l.initial.source ≤ g.I.Source.faults l.source;
-  writes : g.O.Sink.faults l.initial.sink ≤ g.O.Sink.faults l.sink;
+  reads : g.I.Source.faults l.source ≡ g.I.Source.faults l.initial.source;
+  writes : g.O.Sink.faults l.sink ≡ g.O.Sink.faults l.initial.sink;
 }
 
 abbrev pub decreases-pieces : goal.decreases-pieces

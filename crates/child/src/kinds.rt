@@ -1,8 +1,9 @@
 ghost use Rattle.std.specs.Prelude.{◌≡◌, ◌≤◌, map, codes, IfSome};
 ghost use Rattle.std.specs.String.{string_bytes};
-ghost use Rattle.child.specs.Words.{HasNodes, algorithm_of, alone, kind_of, node_count_of, node_role_of, over_nodes, sides_of, with_sides, word_at};
+ghost use Rattle.child.specs.Words.{HasNodes, algorithm_of, alone, kind_of, node_count_of, node_role_of, over_nodes, sides_of, with_sides};
 
 use peg_text::read_decimal;
+use words::{bytes_at, number_between};
 
 /// The most nodes that a role is told of: 2^30.
 const MOST_NODES: u64 = 1_073_741_824;
@@ -51,16 +52,6 @@ pub fn read_kind(words: &[String]) -> Option<Kind>
         2 => read_with_sides(role, bytes_at(words, 1)),
         3 => read_over_nodes(role, bytes_at(words, 1), bytes_at(words, 2)),
         _ => None,
-    }
-}
-
-/// The bytes of a word, and none where there is no such word.
-fn bytes_at(words: &[String], at: usize) -> &[u8]
-    ensures { result.now ≡ word_at (map string_bytes words.now) at }
-{
-    match words.get(at) {
-        Some(word) => word.as_bytes(),
-        None => b"",
     }
 }
 
@@ -156,9 +147,6 @@ fn read_node_count(word: &[u8]) -> Option<u32>
     ensures is { result ≡ node_count_of word.now }
     ensures some { IfSome result (λ nodes. 1 ≤ nodes) }
 {
-    let nodes = read_decimal(word)?;
-    if nodes < 1 || nodes > MOST_NODES {
-        return None;
-    }
+    let nodes = number_between(1, MOST_NODES, word)?;
     Some(nodes as u32)
 }
