@@ -1,8 +1,7 @@
 -- Edges that are made from a seed.
-use Rattle.std.specs.Prelude.{ℕ, zero, suc, ◌+◌, ◌*◌, ◌%◌, List, [], ◌∷◌, decimal}
-use Rattle.std.specs.List.{flat_map}
+use Rattle.std.specs.Prelude.{ℕ, zero, suc, ◌+◌, ◌*◌, ◌%◌, List, [], ◌∷◌}
 use Rattle.graph.specs.declared.edges.Edge.{Edge}
-use Rattle.peg_text.specs.Pairs.{pair_line}
+use Rattle.edge_text.specs.Edges.{text_of}
 use Rattle.rand_pcg.specs.Lcg.{Lcg, started, increment_of}
 use Rattle.rand_pcg.specs.Pcg.{multiplier_64, pcg32}
 
@@ -28,12 +27,6 @@ edges_from g nodes t (suc count) = edge_at g nodes t ∷ edges_from g nodes (t +
 abbrev pub generated_edges : ℕ → ℕ → ℕ → List Edge
 generated_edges count seed nodes = edges_from (generator seed) nodes 0 count
 
--- a line for each edge: its source, TAB and its target
-abbrev pub edge_line : Edge → List ℕ
-edge_line edge = pair_line (decimal edge.source) (decimal edge.target)
-
-abbrev pub text_of : List Edge → List ℕ
-text_of edges = flat_map edge_line edges
-
+-- a line for each edge of a seed
 abbrev pub generated_text : ℕ → ℕ → ℕ → List ℕ
 generated_text count seed nodes = text_of (generated_edges count seed nodes)

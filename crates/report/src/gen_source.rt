@@ -1,13 +1,13 @@
 ghost use Rattle.std.specs.Prelude.{◌≡◌, ◌≢◌, ◌≤◌, ◌<◌, ◌++◌, [], Some, Err, length, take, drop, IfOk, OnOk, OnErr};
 ghost use Rattle.dir_disk.specs.Causes.{HasCause};
 ghost use Rattle.dir_disk.specs.Streams.{AtEnd, onto};
-ghost use Rattle.report.specs.Generated.{edge_line, generated_text, text_of};
+ghost use Rattle.edge_text.specs.Edges.{text_of};
+ghost use Rattle.report.specs.Generated.{generated_text};
 
 use crate::edge_stream::EdgeStream;
 use dir_disk::{Source, SourceFault};
-use graph::Edge;
-use itoa::Buffer;
-use peg_text::{NoMemory, write_pair};
+use edge_text::write_edge;
+use peg_text::NoMemory;
 use std::alloc::Global;
 use std::marker::Model;
 
@@ -23,7 +23,7 @@ pub struct GenSource {
 
 impl Model for GenSource {
     ghost use Rattle.std.specs.Prelude.{ℕ, List, ◌++◌};
-    ghost use Rattle.report.specs.Generated.{text_of};
+    ghost use Rattle.edge_text.specs.Edges.{text_of};
 
     ghost Value = { List ℕ };
 
@@ -42,17 +42,6 @@ impl GenSource {
             edges: EdgeStream::new(edges, seed, nodes),
         }
     }
-}
-
-/// Appends an edge as a line.
-fn write_edge(alloc: Global, text: &mut Vec<u8>, edge: &Edge) -> Result<(), NoMemory>
-    ensures { OnOk result (text.new.items ≡ text.old.items ++ edge_line edge.now) }
-{
-    let mut source = Buffer::new();
-    let mut target = Buffer::new();
-    let source = source.format(edge.source).as_bytes();
-    let target = target.format(edge.target).as_bytes();
-    write_pair(alloc, text, source, target)
 }
 
 /// Appends lines of edges until the text is long enough or no edge is left. Without memory some may be lost.

@@ -1,5 +1,5 @@
 use Rattle.std.proofs.Common.{◌≡◌, ◌++◌, length}
-use Rattle.report.specs.Generated.{text_of}
+use Rattle.edge_text.specs.Edges.{text_of}
 use Rattle.report.proofs.gen_source.fill.Given as goal
 
 abbrev pub invariant-loop-alloc : goal.invariant-loop-alloc
