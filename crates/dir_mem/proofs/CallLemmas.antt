@@ -1,6 +1,6 @@
 -- What a call does, from the step that it adds to the log.
 use Rattle.std.proofs.Common.{◌≡◌, Bool, true, false, ◌||◌, ⊎_elim, List, Result, Ok, Err, refl, sym, ◌∙◌, ap, subst}
-use Rattle.std.specs.Prelude.{OnOk, OnErr, IfErr}
+use Rattle.std.specs.Prelude.{OnOk, OnErr, IfErr, IsErrOf}
 use Rattle.std.proofs.lemmas.Bool.{cases_Bool}
 use Rattle.peg_base.specs.Names.{Names, under}
 use Rattle.dir_disk.specs.declared.dir.DirFault.{DirFault}
@@ -11,8 +11,9 @@ use Rattle.dir_disk.specs.Calls.{Call, Look, Append, Move, Remove, Settle, after
 use Rattle.dir_disk.proofs.Steps.{after_others}
 use Rattle.dir_mem.specs.declared.log.Step.{Step}
 use Rattle.dir_mem.specs.declared.log.Change.{Change}
+use Rattle.dir_mem.specs.Traces.{newest}
 use Rattle.dir_mem.specs.Log.{AddsStep, after_changes, state_of, told_by}
-use Rattle.dir_mem.specs.Failing.{FailsWhen}
+use Rattle.dir_mem.specs.Failing.{FailsWhen, HasNewest}
 use Rattle.dir_mem.specs.Sound.{IsSoundState}
 use Rattle.dir_mem.specs.Facts.{allowed_now, allows_it, present}
 use Rattle.dir_mem.specs.Effects.{Leads, after_break, broken}
@@ -80,3 +81,15 @@ fails_due due NoMemory is = tt
 pub fails_not : (due : Bool) (result : Result (Unit {0}) DirFault) → due ≡ false → IfErr result (λ fault. fault ≡ NoMemory) → FailsWhen due result
 fails_not due (Ok value) is err = is
 fails_not due (Err fault) is err = subst (λ (f : DirFault). FailsWhen {T = Unit {0}} due (Err f)) (sym err) tt
+
+-- a call that was broken off leaves the newest at the paths that it may change
+pub breaks_newest : (call : Call) (fault : State) (top other : Names) (old new : List Step) (result : DirFault) → ((path : Names) → may_change call path ≡ (under top path || under other path)) → (result ≡ Failed → AddsStep 1 old new (after_break top other fault (state_of old))) → IsErrOf {T = Unit {0}} (Err result) Failed → HasNewest call (files (told_by new))
+breaks_newest call fault top other old new result reach failed is path changes =
+    let it : result ≡ Failed = cc in
+    let held : state_of new path ≡ broken (fault path) = ap (λ (t : State). t path) (failed it).reaches ∙ if_true (under top path || under other path) (broken (fault path)) (state_of old path) (sym (reach path) ∙ changes) in
+    subst (λ (t : State). (t path).now ≡ newest (t path).may) (sym (present new)) (subst (λ (h : Held). h.now ≡ newest h.may) (sym held) refl)
+
+-- a call that isn't due to fail leaves nothing broken
+pub none_failed : (call : Call) (state : State) (result : Result (Unit {0}) DirFault) → IfErr result (λ fault. fault ≡ NoMemory) → IsErrOf result Failed → HasNewest call state
+none_failed call state (Ok value) none is = absurd (cc)
+none_failed call state (Err fault) none is = absurd (cc)

@@ -21,7 +21,7 @@ use Rattle.dir_mem.specs.Log.{state_of, told_by}
 use Rattle.dir_mem.specs.Sound.{IsSoundState, HasNoTop, ListsAll, WasFine, admits, allows, is_listed, is_short_content, is_short_member, is_sound}
 use Rattle.dir_mem.specs.Traces.{garbage, member_of, members_of, newest, shown}
 use Rattle.dir_mem.specs.Facts.{absent_from, allowed_now, allows_it, short_now}
-use Rattle.dir_mem.specs.Images.{CanBegin, Files, HasNowFirst, IsFair, IsRightBefore, Passes, Shows, bytes_in, image_of, is_fair, oldest, seen, with_file}
+use Rattle.dir_mem.specs.Images.{CanBegin, Files, HasViewsFirst, IsFair, IsRightBefore, Passes, Shows, bytes_in, image_of, is_fair, oldest, seen, with_file}
 use Rattle.dir_mem.proofs.EffectLemmas.{or_first, or_second, unlisted_absent}
 use Rattle.dir_mem.proofs.PastLemmas.{past_no_top}
 use Rattle.dir_mem.proofs.SoundLemmas.{admits_shown, short_shown, short_may}
@@ -208,17 +208,30 @@ fair_three state first second third one two three =
     let P : Files → Type 0 = λ image. IsFair state (image_of image) in
     All-cons P first (second ∷ third ∷ []) one (All-cons P second (third ∷ []) two (All-cons P third [] three (All-nil P)))
 
-pub shows_from : (result : Result (Vec Files) NoMemory) (call place : ℕ) (steps : List Step) (paths : List Names) → IsRightBefore call place (told_by steps) → WasFine paths steps → IfOk result (λ images. All (λ image. IsFair (state_of (take place steps)) (image_of image)) images.items) → IfOk result (λ images. HasNowFirst (state_of (take place steps)) images.items) → IfOk result (λ images. Shows call (told_by steps) images.items)
-shows_from (Ok images) call place steps paths before past fair now =
+-- images that come behind change no view
+pub views_stay : (state : State) (old new : List Files) → HasViewsFirst state old → (more : List Files) × (new ≡ old ++ more) → HasViewsFirst state new
+views_stay state old new views grows = record {
+  first = views.first;
+  second = views.second;
+  third = views.third;
+  others = views.others ++ grows.0;
+  are = grows.1 ∙ ap (λ (images : List Files). images ++ grows.0) views.are;
+  now = views.now;
+  of_oldest = views.of_oldest;
+  of_newest = views.of_newest;
+}
+
+pub shows_from : (result : Result (Vec Files) NoMemory) (call place : ℕ) (steps : List Step) (paths : List Names) → IsRightBefore call place (told_by steps) → WasFine paths steps → IfOk result (λ images. All (λ image. IsFair (state_of (take place steps)) (image_of image)) images.items) → IfOk result (λ images. HasViewsFirst (state_of (take place steps)) images.items) → IfOk result (λ images. Shows call (told_by steps) images.items)
+shows_from (Ok images) call place steps paths before past fair views =
     let state : State = state_of (take place steps) in
     record {
       place = place;
       before = before;
       fits = All-weaker (λ image. IsFair state (image_of image)) (λ image. Fits state (image_of image)) (λ image is. fair_fits state (image_of image) is) images.items fair;
       starts = All-weaker (λ image. IsFair state (image_of image)) (λ image. CanBegin (image_of image)) (λ image is. fair_starts state (image_of image) (past_no_top paths steps place past) is) images.items fair;
-      now = now;
+      views = views;
     }
-shows_from (Err fault) call place steps paths before past fair now = tt
+shows_from (Err fault) call place steps paths before past fair views = tt
 
 -- an image without files
 pub no_file_left : (files : Files) → (0 < btree_map_len files → ⊥) → (q : Names) → image_of files q ≡ None

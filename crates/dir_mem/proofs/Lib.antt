@@ -4,6 +4,7 @@ pub mod ImageLemmas
 pub mod ListLemmas
 pub mod LoanLemmas
 pub mod LogLemmas
+pub mod LookBackLemmas
 pub mod LookLemmas
 pub mod MoveLemmas
 pub mod PastLemmas

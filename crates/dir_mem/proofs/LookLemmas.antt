@@ -27,13 +27,13 @@ none_listed p (first ∷ paths) path none listed =
     let parts = or_none (p first) (list_any p paths) none in
     ⊎_elim (λ same. subst (λ (q : Names). p q ≡ false) (same_path-true first path same) parts.0) (λ later. none_listed p paths path parts.1 later) (or_cases (same_path first path) (is_listed paths path) listed)
 
-some_listed : (p : Names → Bool) (paths : List Names) → list_any p paths ≡ true → (path : Names) × (p path ≡ true)
+pub some_listed : (p : Names → Bool) (paths : List Names) → list_any p paths ≡ true → (path : Names) × (p path ≡ true)
 some_listed p [] is = absurd (false≢true is)
 some_listed p (first ∷ paths) is =
     ⊎_elim (λ here. (first, here)) (λ later. some_listed p paths later) (or_cases (p first) (list_any p paths) is)
 
 -- a test that fails at each listed path and where no file is fails everywhere
-none_at : (p : Names → Bool) (paths : List Names) (state : State) → ListsAll paths state → list_any p paths ≡ false → (path : Names) → ((state path).now ≡ None → p path ≡ false) → p path ≡ false
+pub none_at : (p : Names → Bool) (paths : List Names) (state : State) → ListsAll paths state → list_any p paths ≡ false → (path : Names) → ((state path).now ≡ None → p path ≡ false) → p path ≡ false
 none_at p paths state lists none path gone =
     ⊎_elim (λ listed. none_listed p paths path none listed) (λ unlisted. gone (ap (λ (h : Held). h.now) (unlisted_absent paths state path lists unlisted))) (cases_Bool (is_listed paths path))
 
@@ -60,7 +60,7 @@ append_clear paths state place lists named clear = record {
   nothing_under = λ q below other. clear_at paths state place q lists clear (same_path_comm q place ∙ other) (inl below);
 }
 
-file_of : (now : Content) → is_some now ≡ true → (bytes : List ℕ) × (now ≡ Some bytes)
+pub file_of : (now : Content) → is_some now ≡ true → (bytes : List ℕ) × (now ≡ Some bytes)
 file_of None is = absurd (false≢true is)
 file_of (Some bytes) is = (bytes, refl)
 

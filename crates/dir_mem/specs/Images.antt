@@ -49,12 +49,22 @@ pub record IsRightBefore (call place : ℕ) (told : Told) : Type 0 where
   pub calls : (told.at place).calls ≡ call
   pub last : (later : ℕ) → place < later → later ≤ told.count → call < (told.at later).calls
 
--- the image of what is there now comes first
-pub record HasNowFirst (state : State) (images : List Files) : Type 0 where
+-- what the last member shows, which is the oldest
+abbrev pub oldest : List Member → Content
+oldest [] = None
+oldest (member ∷ []) = shown member
+oldest (member ∷ (older ∷ may)) = oldest (older ∷ may)
+
+-- the image of what is there now comes first, then the one of the oldest that a stop may leave at each path, and the one of the newest
+pub record HasViewsFirst (state : State) (images : List Files) : Type 0 where
   pub first : Files
+  pub second : Files
+  pub third : Files
   pub others : List Files
-  pub is : images ≡ first ∷ others
+  pub are : images ≡ first ∷ second ∷ third ∷ others
   pub now : (path : Names) → image_of first path ≡ (state path).now
+  pub of_oldest : (path : Names) → image_of second path ≡ oldest (state path).may
+  pub of_newest : (path : Names) → image_of third path ≡ newest (state path).may
 
 -- images of the state right before the call of this number: each fits it, and a directory can be made from each
 pub record Shows (call : ℕ) (told : Told) (images : List Files) : Type 0 where
@@ -62,15 +72,9 @@ pub record Shows (call : ℕ) (told : Told) (images : List Files) : Type 0 where
   pub before : IsRightBefore call place told
   pub fits : All (λ files. Fits (told.at place).state (image_of files)) images
   pub starts : All (λ files. CanBegin (image_of files)) images
-  pub now : HasNowFirst (told.at place).state images
+  pub views : HasViewsFirst (told.at place).state images
 
 -- ---- how an image is chosen
-
--- what the last member shows, which is the oldest
-abbrev pub oldest : List Member → Content
-oldest [] = None
-oldest (member ∷ []) = shown member
-oldest (member ∷ (older ∷ may)) = oldest (older ∷ may)
 
 -- what a view has of a path
 abbrev pub seen : View → Held → Content

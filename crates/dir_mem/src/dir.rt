@@ -50,8 +50,8 @@ fn piece_at(
 }
 
 impl Dir for MemDir {
-    ghost use Rattle.dir_mem.specs.Memory.{faults_of, has_room, is_due, lent_of, told_of};
-    ghost use Rattle.dir_mem.specs.Failing.{FailsWhen};
+    ghost use Rattle.dir_mem.specs.Memory.{fail_of, faults_of, has_room, is_due, lent_of, told_of};
+    ghost use Rattle.dir_mem.specs.Failing.{FailsWhen, HasNewest};
     ghost use Rattle.dir_disk.specs.Causes.{HasCause};
     ghost use Rattle.dir_disk.specs.Lent.{IsFree, IsNoOutput};
     ghost use Rattle.dir_disk.specs.Moments.{files};
@@ -76,6 +76,7 @@ impl Dir for MemDir {
         ensures small { IfOk result (λ size. IfSome size (λ n. n ≤ 2 ^ 50)) }
         ensures call { Does (Look path.now) (told_of self.old) (told_of self.new) result }
         ensures lent { lent_of self.new ≡ lent_of self.old }
+        ensures fail { fail_of self.new ≡ fail_of self.old }
         ensures cause { HasCause DirFault.Failed (faults_of self.old) (faults_of self.new) result }
         ensures no_memory { IsErrOf result DirFault.NoMemory → faults_of self.new ≡ faults_of self.old }
 
@@ -98,6 +99,7 @@ impl Dir for MemDir {
         ensures few { IfOk result (λ bytes. length bytes.items ≤ max) }
         ensures call { Does (Look path.now) (told_of self.old) (told_of self.new) result }
         ensures lent { lent_of self.new ≡ lent_of self.old }
+        ensures fail { fail_of self.new ≡ fail_of self.old }
         ensures cause { HasCause DirFault.Failed (faults_of self.old) (faults_of self.new) result }
         ensures no_memory { IsErrOf result DirFault.NoMemory → faults_of self.new ≡ faults_of self.old }
 
@@ -113,18 +115,22 @@ impl Dir for MemDir {
         Ok(bytes)
     }
 
-    #[tactic(auto, using(crate::proofs::CallLemmas::fails_due, crate::proofs::CallLemmas::fails_not))]
+    #[tactic(auto, using(crate::proofs::CallLemmas::fails_due, crate::proofs::CallLemmas::fails_not, crate::proofs::CallLemmas::none_failed))]
     fn append(&mut self, alloc: Global, path: &Path, bytes: &[u8]) -> Result<(), DirFault>
         requires lent { IsFree (lent_of self.old) path.now }
         requires can { CanAppend (files (told_of self.old)) path.now }
         ensures call { Does (Append path.now bytes.now) (told_of self.old) (told_of self.new) result }
         ensures fits { OnOk result (length (bytes_of (files (told_of self.old) path.now).now) + length bytes.now ≤ 2 ^ 50) }
         ensures lent { lent_of self.new ≡ lent_of self.old }
+        ensures fail { fail_of self.new ≡ fail_of self.old }
         ensures cause { HasCause DirFault.Failed (faults_of self.old) (faults_of self.new) result }
         ensures no_memory { IsErrOf result DirFault.NoMemory → faults_of self.new ≡ faults_of self.old }
 
         // It fails just where it is told, and where the file would pass 2^50 bytes.
         ensures fails { FailsWhen (is_due self.old || not (has_room (files (told_of self.old)) path.now bytes.now)) result }
+
+        // Where it fails, each path that it may change has the newest of what a stop may leave there.
+        ensures newest { IsErrOf result DirFault.Failed → HasNewest (Append path.now bytes.now) (files (told_of self.new)) }
     {
         if self.is_due() || is_too_long(&self.steps, path, bytes) {
             return Err(self.break_append(alloc, path));
@@ -135,18 +141,22 @@ impl Dir for MemDir {
         self.finish(alloc, changes)
     }
 
-    #[tactic(auto, using(crate::proofs::CallLemmas::fails_due, crate::proofs::CallLemmas::fails_not))]
+    #[tactic(auto, using(crate::proofs::CallLemmas::fails_due, crate::proofs::CallLemmas::fails_not, crate::proofs::CallLemmas::none_failed))]
     fn move_tree(&mut self, alloc: Global, from: &Path, to: &Path) -> Result<(), DirFault>
         requires lent_from { IsFree (lent_of self.old) from.now }
         requires lent_to { IsFree (lent_of self.old) to.now }
         requires can { CanMove (files (told_of self.old)) from.now to.now }
         ensures call { Does (Move from.now to.now) (told_of self.old) (told_of self.new) result }
         ensures lent { lent_of self.new ≡ lent_of self.old }
+        ensures fail { fail_of self.new ≡ fail_of self.old }
         ensures cause { HasCause DirFault.Failed (faults_of self.old) (faults_of self.new) result }
         ensures no_memory { IsErrOf result DirFault.NoMemory → faults_of self.new ≡ faults_of self.old }
 
         // It fails just where it is told.
         ensures fails { FailsWhen (is_due self.old) result }
+
+        // Where it fails, each path that it may change has the newest of what a stop may leave there.
+        ensures newest { IsErrOf result DirFault.Failed → HasNewest (Move from.now to.now) (files (told_of self.new)) }
     {
         let Ok(changes) = moving(alloc, &self.steps, &self.paths, from, to) else {
             return Err(DirFault::NoMemory);
@@ -157,16 +167,20 @@ impl Dir for MemDir {
         self.finish(alloc, changes)
     }
 
-    #[tactic(auto, using(crate::proofs::CallLemmas::fails_due, crate::proofs::CallLemmas::fails_not))]
+    #[tactic(auto, using(crate::proofs::CallLemmas::fails_due, crate::proofs::CallLemmas::fails_not, crate::proofs::CallLemmas::none_failed))]
     fn remove_tree(&mut self, alloc: Global, path: &Path) -> Result<(), DirFault>
         requires { IsFree (lent_of self.old) path.now }
         ensures call { Does (Remove path.now) (told_of self.old) (told_of self.new) result }
         ensures lent { lent_of self.new ≡ lent_of self.old }
+        ensures fail { fail_of self.new ≡ fail_of self.old }
         ensures cause { HasCause DirFault.Failed (faults_of self.old) (faults_of self.new) result }
         ensures no_memory { IsErrOf result DirFault.NoMemory → faults_of self.new ≡ faults_of self.old }
 
         // It fails just where it is told.
         ensures fails { FailsWhen (is_due self.old) result }
+
+        // Where it fails, each path that it may change has the newest of what a stop may leave there.
+        ensures newest { IsErrOf result DirFault.Failed → HasNewest (Remove path.now) (files (told_of self.new)) }
     {
         let Ok(changes) = removing(alloc, &self.steps, &self.paths, path) else {
             return Err(DirFault::NoMemory);
@@ -177,16 +191,20 @@ impl Dir for MemDir {
         self.finish(alloc, changes)
     }
 
-    #[tactic(auto, using(crate::proofs::CallLemmas::fails_due, crate::proofs::CallLemmas::fails_not))]
+    #[tactic(auto, using(crate::proofs::CallLemmas::fails_due, crate::proofs::CallLemmas::fails_not, crate::proofs::CallLemmas::none_failed))]
     fn settle(&mut self, alloc: Global, path: &Path) -> Result<(), DirFault>
         requires { IsFree (lent_of self.old) path.now }
         ensures call { Does (Settle path.now) (told_of self.old) (told_of self.new) result }
         ensures lent { lent_of self.new ≡ lent_of self.old }
+        ensures fail { fail_of self.new ≡ fail_of self.old }
         ensures cause { HasCause DirFault.Failed (faults_of self.old) (faults_of self.new) result }
         ensures no_memory { IsErrOf result DirFault.NoMemory → faults_of self.new ≡ faults_of self.old }
 
         // It fails just where it is told.
         ensures fails { FailsWhen (is_due self.old) result }
+
+        // Where it fails, each path that it may change has the newest of what a stop may leave there.
+        ensures newest { IsErrOf result DirFault.Failed → HasNewest (Settle path.now) (files (told_of self.new)) }
     {
         if self.is_due() {
             return Err(self.break_off(alloc, &[], path, path));

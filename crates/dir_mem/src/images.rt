@@ -6,7 +6,7 @@ ghost use Rattle.dir_disk.specs.Moments.{clock};
 ghost use Rattle.dir_mem.specs.Log.{calls_of, state_of, told_by};
 ghost use Rattle.dir_mem.specs.Sound.{HasNoTop, IsSoundState, ListsAll, is_listed};
 ghost use Rattle.dir_mem.specs.Traces.{content_of, member_of, shown};
-ghost use Rattle.dir_mem.specs.Images.{Files, HasNowFirst, IsFair, IsRightBefore, Shows, bytes_in, image_of, is_fair, seen, with_file, Passes};
+ghost use Rattle.dir_mem.specs.Images.{Files, HasViewsFirst, IsFair, IsRightBefore, Shows, bytes_in, image_of, is_fair, seen, with_file, Passes};
 
 use crate::effects::copied;
 use crate::log::{Step, content_at, traces_after};
@@ -202,13 +202,14 @@ fn add_variations(
     Ok(())
 }
 
+#[tactic(auto, using(crate::proofs::ImageLemmas::views_stay))]
 /// The images that are shown of what these steps left: of now, of the oldest traces, of the newest, and for each path and
 /// each content that a stop may leave there, one that differs from the first there alone.
 fn shown(alloc: Global, steps: &[Step], paths: &[Path]) -> Result<Vec<Image>, NoMemory>
     requires sound { IsSoundState (state_of steps.now) }
     requires lists { ListsAll paths.now (state_of steps.now) }
     ensures fair { IfOk result (λ images. All (λ image. IsFair (state_of steps.now) (image_of image)) images.items) }
-    ensures now { IfOk result (λ images. HasNowFirst (state_of steps.now) images.items) }
+    ensures views { IfOk result (λ images. HasViewsFirst (state_of steps.now) images.items) }
 {
     let now = image_at(alloc, steps, paths, View::Now)?;
     let mut images = Vec::new(alloc);

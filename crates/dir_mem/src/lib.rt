@@ -14,6 +14,7 @@ mod traces;
 pub use images::Image;
 pub use lending::Loan;
 pub use mem_dir::MemDir;
+pub use traces::GARBAGE;
 
 #[cfg(test)]
 mod tests;

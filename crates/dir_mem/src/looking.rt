@@ -65,7 +65,8 @@ fn gets_too_deep(steps: &[Step], paths: &[Path], from: &Path, to: &Path) -> bool
 /// Whether the move can be made.
 fn can_move(steps: &[Step], paths: &[Path], from: &Path, to: &Path) -> bool
     requires { ListsAll paths.now (state_of steps.now) }
-    ensures { result ≡ true → CanMove (state_of steps.now) from.now to.now }
+    ensures can { result ≡ true → CanMove (state_of steps.now) from.now to.now }
+    ensures cannot { CanMove (state_of steps.now) from.now to.now → result ≡ true }
 {
     if !holds_any(steps, paths, from) {
         return false;
@@ -81,15 +82,18 @@ fn can_move(steps: &[Step], paths: &[Path], from: &Path, to: &Path) -> bool
 
 /// Whether no file is at the place, above it or under it.
 fn is_vacant(steps: &[Step], paths: &[Path], place: &Path) -> bool
-    ensures { result ≡ true
+    ensures vacant { result ≡ true
         → ((state_of steps.now place.now).now ≡ None) × (list_any (is_in_way (state_of steps.now) place.now) paths.now ≡ false) }
+    ensures taken { (state_of steps.now place.now).now ≡ None
+        → list_any (is_in_way (state_of steps.now) place.now) paths.now ≡ false → result ≡ true }
 {
     content_at(steps, place).is_none() && !is_blocked(steps, paths, place)
 }
 
 /// Whether neither path lies under the other.
 fn are_apart(from: &Path, to: &Path) -> bool
-    ensures { result ≡ true → (under from.now to.now ≡ false) × (under to.now from.now ≡ false) }
+    ensures apart { result ≡ true → (under from.now to.now ≡ false) × (under to.now from.now ≡ false) }
+    ensures nested { under from.now to.now ≡ false → under to.now from.now ≡ false → result ≡ true }
 {
     !to.under(from) && !from.under(to)
 }
@@ -97,15 +101,18 @@ fn are_apart(from: &Path, to: &Path) -> bool
 /// Whether a file can be made at the path, or appended to.
 fn can_append(steps: &[Step], paths: &[Path], path: &Path) -> bool
     requires { ListsAll paths.now (state_of steps.now) }
-    ensures { result ≡ true → CanAppend (state_of steps.now) path.now }
+    ensures can { result ≡ true → CanAppend (state_of steps.now) path.now }
+    ensures cannot { CanAppend (state_of steps.now) path.now → result ≡ true }
 {
     !path.names().is_empty() && !is_blocked(steps, paths, path)
 }
 
 /// Whether a stop leaves no file at the path.
 fn leaves_none(steps: &[Step], path: &Path) -> bool
-    ensures { result ≡ true
+    ensures none { result ≡ true
         → (content : Content) → Allows (state_of steps.now path.now).may content → content ≡ None }
+    ensures some { ((content : Content) → Allows (state_of steps.now path.now).may content → content ≡ None)
+        → result ≡ true }
 {
     match traces_after(steps, path) {
         None => true,
@@ -149,43 +156,50 @@ impl MemDir {
 
     /// Whether a stop leaves no file at the path.
     pub fn leaves_none(&self, path: &Path) -> bool
-        ensures { result ≡ true
+        ensures none { result ≡ true
             → (content : Content) → Allows (files (told_of self.now) path.now).may content → content ≡ None }
+        ensures some { ((content : Content) → Allows (files (told_of self.now) path.now).may content → content ≡ None)
+            → result ≡ true }
     {
         leaves_none(&self.steps, path)
     }
 
     /// Whether a file can be made at the path, or appended to.
     pub fn can_append(&self, path: &Path) -> bool
-        ensures { result ≡ true → CanAppend (files (told_of self.now)) path.now }
+        ensures can { result ≡ true → CanAppend (files (told_of self.now)) path.now }
+        ensures cannot { CanAppend (files (told_of self.now)) path.now → result ≡ true }
     {
         can_append(&self.steps, &self.paths, path)
     }
 
     /// Whether something is to be moved, and there is room for it.
     pub fn can_move(&self, from: &Path, to: &Path) -> bool
-        ensures { result ≡ true → CanMove (files (told_of self.now)) from.now to.now }
+        ensures can { result ≡ true → CanMove (files (told_of self.now)) from.now to.now }
+        ensures cannot { CanMove (files (told_of self.now)) from.now to.now → result ≡ true }
     {
         can_move(&self.steps, &self.paths, from, to)
     }
 
     /// Whether the paths can be lent: the one to be read, the other to be written.
     pub fn can_lend(&self, input: &Path, output: &Path) -> bool
-        ensures { result ≡ true → CanStart (files (told_of self.now)) input.now output.now }
+        ensures can { result ≡ true → CanStart (files (told_of self.now)) input.now output.now }
+        ensures cannot { CanStart (files (told_of self.now)) input.now output.now → result ≡ true }
     {
         self.has_file(input) && self.leaves_none(output) && self.can_append(output)
     }
 
     /// Whether no child writes the path.
     pub fn is_no_output(&self, path: &Path) -> bool
-        ensures { result ≡ true → IsNoOutput (lent_of self.now) path.now }
+        ensures no_output { result ≡ true → IsNoOutput (lent_of self.now) path.now }
+        ensures output { IsNoOutput (lent_of self.now) path.now → result ≡ true }
     {
         is_no_output(&self.lent, path)
     }
 
     /// Whether nothing at or under the path is lent.
     pub fn is_free(&self, path: &Path) -> bool
-        ensures { result ≡ true → IsFree (lent_of self.now) path.now }
+        ensures free { result ≡ true → IsFree (lent_of self.now) path.now }
+        ensures lent { IsFree (lent_of self.now) path.now → result ≡ true }
     {
         is_free(&self.lent, path)
     }

@@ -57,6 +57,7 @@ impl MemDir {
             (after_changes changes.items (state_of self.old.steps.items))) }
         ensures err { OnErr result (self.new.steps.items ≡ self.old.steps.items) }
         ensures lent { self.new.lent ≡ self.old.lent }
+        ensures fail { self.new.fail ≡ self.old.fail }
         ensures faults { self.new.faults ≡ self.old.faults }
     {
         self.steps.reserve(self.lent.len() + 1)?;
@@ -166,6 +167,7 @@ impl MemDir {
         ensures err { IfErr result (λ fault. fault ≡ DirFault.NoMemory) }
         ensures steps { OnErr result (self.new.steps.items ≡ self.old.steps.items) }
         ensures lent { self.new.lent ≡ self.old.lent }
+        ensures fail { self.new.fail ≡ self.old.fail }
         ensures faults { self.new.faults ≡ self.old.faults }
     {
         let Ok(()) = self.list(alloc, &changes) else {
@@ -193,6 +195,7 @@ impl MemDir {
             (after_break top.now other.now (after_changes changes.now (state_of self.old.steps.items)) (state_of self.old.steps.items)) }
         ensures no_memory { result ≡ DirFault.NoMemory → self.new.steps.items ≡ self.old.steps.items }
         ensures lent { self.new.lent ≡ self.old.lent }
+        ensures fail { self.new.fail ≡ self.old.fail }
         ensures later { self.old.faults ≤ self.new.faults }
         ensures rose { result ≡ DirFault.Failed → Rose self.old.faults self.new.faults }
         ensures same { result ≡ DirFault.NoMemory → self.new.faults ≡ self.old.faults }
@@ -218,6 +221,7 @@ impl MemDir {
             (after_break path.now path.now (after_append path.now [] (state_of self.old.steps.items)) (state_of self.old.steps.items)) }
         ensures no_memory { result ≡ DirFault.NoMemory → self.new.steps.items ≡ self.old.steps.items }
         ensures lent { self.new.lent ≡ self.old.lent }
+        ensures fail { self.new.fail ≡ self.old.fail }
         ensures later { self.old.faults ≤ self.new.faults }
         ensures rose { result ≡ DirFault.Failed → Rose self.old.faults self.new.faults }
         ensures same { result ≡ DirFault.NoMemory → self.new.faults ≡ self.old.faults }
@@ -235,6 +239,7 @@ impl MemDir {
             → AddsStep 1 self.old.steps.items self.new.steps.items (state_of self.old.steps.items) }
         ensures no_memory { IsErrOf result DirFault.NoMemory → self.new.steps.items ≡ self.old.steps.items }
         ensures lent { self.new.lent ≡ self.old.lent }
+        ensures fail { self.new.fail ≡ self.old.fail }
         ensures fails { FailsWhen (is_named self.old.fail.items self.old.calls) result }
         ensures later { self.old.faults ≤ self.new.faults }
         ensures rose { IsErrOf result DirFault.Failed → Rose self.old.faults self.new.faults }

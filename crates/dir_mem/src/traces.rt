@@ -7,8 +7,8 @@ ghost use Rattle.dir_mem.specs.Looking.{is_gone};
 use peg_text::NoMemory;
 use std::alloc::Global;
 
-/// What a file has where it may have any bytes.
-pub(crate) const GARBAGE: &[u8] = b"garbage\n";
+/// The bytes of a file that may have any: `garbage\n`.
+pub const GARBAGE: &[u8] = b"garbage\n";
 
 /// What a stop may leave at a path.
 #[derive(Drop)]

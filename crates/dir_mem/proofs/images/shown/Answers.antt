@@ -17,5 +17,5 @@ loop-path-init c =
     let now = now_copied c.args.paths.now state (image_of c.in_ok-now.now) (image_of first) c.requires.lists c.in_ok-now.ensures c.in_ok-copy_of.ensures in
     record {
       fair = subst (λ (l : List Files). All (λ image. IsFair state (image_of image)) l) (sym are) (fair_three state first second third (fair_view Now state (image_of first) c.requires.sound now) (fair_view Oldest state (image_of second) c.requires.sound c.in_ok-image_at.ensures) (fair_view Newest state (image_of third) c.requires.sound c.in_ok-image_at-2.ensures));
-      now = record { first = first; others = second ∷ third ∷ []; is = are; now = now };
+      views = record { first = first; second = second; third = third; others = []; are = are; now = now; of_oldest = c.in_ok-image_at.ensures; of_newest = c.in_ok-image_at-2.ensures };
     }

@@ -5,7 +5,7 @@ use Rattle.dir_disk.specs.State.{Held, after_append, appended, bytes_of}
 use Rattle.dir_disk.specs.Calls.{Append}
 use Rattle.dir_mem.specs.declared.log.Step.{Step}
 use Rattle.dir_mem.specs.Sound.{is_short}
-use Rattle.dir_mem.proofs.CallLemmas.{does_fail, or_same}
+use Rattle.dir_mem.proofs.CallLemmas.{breaks_newest, does_fail, or_same}
 use Rattle.dir_mem.specs.Log.{state_of}
 use Rattle.dir_mem.proofs.SoundLemmas.{open_call, open_append, sound_call, sound_append_unless}
 use Rattle.dir_mem.proofs.dir.MemDirDir.append.Goals as goal
@@ -31,3 +31,9 @@ returns-then-is_due-clause-call c =
     let old = c.args.self.now in
     let path = c.args.path.now in
     does_fail (Append path c.args.bytes.now) (after_append path [] (state_of old.steps.items)) path path old.steps.items c.break_append.new.self.steps.items c.break_append.result (λ q. or_same (under path q)) (λ q. may_appended (same_path path q) c.args.bytes.now (state_of old.steps.items q)) c.break_append.ensures.failed c.break_append.ensures.no_memory c.break_append.new.self.sound
+
+pub returns-then-is_due-clause-newest : goal.returns-then-is_due-clause-newest
+returns-then-is_due-clause-newest c =
+    let old = c.args.self.now in
+    let path = c.args.path.now in
+    breaks_newest (Append path c.args.bytes.now) (after_append path [] (state_of old.steps.items)) path path old.steps.items c.break_append.new.self.steps.items c.break_append.result (λ q. or_same (under path q)) c.break_append.ensures.failed

@@ -5,7 +5,7 @@ use Rattle.dir_mem.specs.declared.log.Change.{Change}
 use Rattle.dir_mem.specs.Log.{after_changes, state_of}
 use Rattle.dir_mem.specs.Effects.{Leads}
 use Rattle.dir_mem.specs.Sound.{IsSoundState, HasNoTop}
-use Rattle.dir_mem.proofs.CallLemmas.{does_fail, does_ok}
+use Rattle.dir_mem.proofs.CallLemmas.{breaks_newest, does_fail, does_ok}
 use Rattle.dir_mem.proofs.SoundLemmas.{leads_from, no_top_call, no_top_move, open_call, open_move, sound_call, sound_move}
 use Rattle.dir_mem.proofs.dir.MemDirDir.move_tree.Goals as goal
 
@@ -56,3 +56,10 @@ pub returns-clause-call : goal.returns-clause-call
 returns-clause-call c =
     let old = c.args.self.now in
     does_ok (Move c.args.from.now c.args.to.now) c.in-Ok.changes.items c.deref.result.now old.steps.items c.finish.new.self.steps.items c.finish.result c.deref.ensures.value c.in-Ok.ensures c.finish.ensures.ok c.finish.ensures.err c.finish.ensures.steps
+
+pub returns-then-is_due-clause-newest : goal.returns-then-is_due-clause-newest
+returns-then-is_due-clause-newest c =
+    let old = c.args.self.now in
+    let from = c.args.from.now in
+    let to = c.args.to.now in
+    breaks_newest (Move from to) (after_changes c.deref-then-is_due.result.now (state_of old.steps.items)) from to old.steps.items c.break_off.new.self.steps.items c.break_off.result (λ path. refl) c.break_off.ensures.failed
