@@ -11,10 +11,6 @@ WriteApart (loan ∷ lent) = IsNoOutput lent loan.output × WriteApart lent
 abbrev pub is_too_long : List ℕ → Bool
 is_too_long answer = nat_lt (2 ^ 50) (length answer)
 
--- the file that a child leaves that hasn't done its work: `garbage` and a line's end
-abbrev pub garbage : List ℕ
-garbage = 103 ∷ 97 ∷ 114 ∷ 98 ∷ 97 ∷ 103 ∷ 101 ∷ 10 ∷ []
-
 -- the status of a child that has done its work
 abbrev pub is_zero : ℤ → Bool
 is_zero (pos number) = nat_eq number 0

@@ -2,8 +2,7 @@
 use Rattle.std.specs.Prelude.{◌≡◌, ℕ, ℤ, pos, ◌+◌, ◌⊎◌, ◌&&◌, ◌==◌, Bool, true, false, not, nat_eq, List, [], length, Option, Some, None, find, Result, Ok, Err, if◌then◌else◌}
 use Rattle.std.specs.List.{AllWithin, HoldsAt, list_any}
 use Rattle.peg_base.specs.Names.{same_path}
-use Rattle.peg_base.specs.declared.tasks.Phase.{Phase}
-use Rattle.peg_base.specs.declared.tasks.Phase.TheVariants.{Map, Reduce}
+use Rattle.peg_base.specs.Tasks.{same_phase}
 use Rattle.peg_base.specs.declared.tasks.Attempt.{Attempt}
 use Rattle.dir_disk.specs.declared.site.LogEntry.{LogEntry}
 use Rattle.dir_disk.specs.declared.site.LogEntry.TheVariants.{Started, StartFailed, Ended}
@@ -24,12 +23,6 @@ pub record Planned : Type 0 where
 -- nothing is told
 abbrev pub unplanned : Planned
 unplanned = record { script = []; refused = []; order = OldestFirst; holds = [] }
-
-abbrev pub same_phase : Phase → Phase → Bool
-same_phase Map Map = true
-same_phase Map Reduce = false
-same_phase Reduce Map = false
-same_phase Reduce Reduce = true
 
 abbrev pub same_attempt : Attempt → Attempt → Bool
 same_attempt one other =

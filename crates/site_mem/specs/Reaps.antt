@@ -3,7 +3,8 @@ use Rattle.std.specs.Prelude.{◌≡◌, ℕ, ℤ, List, Some, length, if◌then
 use Rattle.peg_base.specs.declared.tasks.Attempt.{Attempt}
 use Rattle.dir_disk.specs.Children.{Child, Ends, Leaves, Seen}
 use Rattle.dir_disk.specs.Moments.{Told, files}
-use Rattle.site_mem.specs.Ends.{garbage, is_zero}
+use Rattle.dir_mem.specs.Traces.{garbage}
+use Rattle.site_mem.specs.Ends.{is_zero}
 use Rattle.site_mem.specs.Plans.{IsNext, Planned, status_of}
 
 -- the child that the plan names next has ended with the status that the plan gives it, and left its answer or `garbage`

@@ -37,7 +37,10 @@ impl<R: Roles + Drop> Console for MemSite<R> {
         ensures seen { self.new.seen ≡ self.old.seen }
         ensures given { self.new.given ≡ self.old.given }
         ensures plan { self.new.plan ≡ self.old.plan }
+        ensures mute { self.new.voice.mute ≡ self.old.voice.mute }
         ensures cause { HasCause SayFault.Failed self.old.voice.faults self.new.voice.faults result }
+        ensures steady { OnOk result (self.new.voice.faults ≡ self.old.voice.faults) }
+        ensures uncounted { IsErrOf result SayFault.NoMemory → self.new.voice.faults ≡ self.old.voice.faults }
 
         // It fails just where it is muted, and then says nothing.
         ensures fails { FailsIf (is_muted self.old.voice) result }

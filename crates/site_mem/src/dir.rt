@@ -5,9 +5,9 @@ use peg_base::Path;
 use std::alloc::Global;
 
 impl<R: Roles + Drop> Dir for MemSite<R> {
-    ghost use Rattle.std.specs.Prelude.{List};
+    ghost use Rattle.std.specs.Prelude.{ℕ, List};
     ghost use Rattle.dir_disk.specs.Children.{Given, Seen, loans_of};
-    ghost use Rattle.dir_mem.specs.Memory.{faults_of, told_of};
+    ghost use Rattle.dir_mem.specs.Memory.{fail_of, faults_of, told_of};
     ghost use Rattle.dir_mem.specs.Laws.{clock_of_memory, now_is_allowed, files_are_short, top_is_none};
     ghost use Rattle.site_mem.specs.Voices.{Voiced};
     ghost use Rattle.site_mem.specs.Plans.{Planned};
@@ -20,9 +20,9 @@ impl<R: Roles + Drop> Dir for MemSite<R> {
 
     ghost faults = { λ site. faults_of site.dir };
 
-    ghost Beside = { Seen × List Given × Voiced × Planned };
+    ghost Beside = { Seen × List Given × Voiced × Planned × List ℕ };
 
-    ghost beside = { λ site. (site.seen, site.given, site.voice, site.plan) };
+    ghost beside = { λ site. (site.seen, site.given, site.voice, site.plan, fail_of site.dir) };
 
     fn size(&mut self, alloc: Global, path: &Path) -> Result<Option<u64>, DirFault> {
         self.dir.size(alloc, path)

@@ -2,7 +2,8 @@ ghost use Rattle.std.specs.Prelude.{◌≡◌, ◌&&◌, not, find};
 ghost use Rattle.std.specs.List.{list_any};
 ghost use Rattle.std.specs.Option.{option_copied};
 ghost use Rattle.site_mem.specs.Ends.{end_status, is_zero};
-ghost use Rattle.site_mem.specs.Plans.{same_attempt, same_phase, starts};
+ghost use Rattle.peg_base.specs.Tasks.{same_phase};
+ghost use Rattle.site_mem.specs.Plans.{same_attempt, starts};
 
 use crate::order::Order;
 use dir_disk::LogEntry;

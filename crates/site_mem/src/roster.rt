@@ -4,23 +4,21 @@ ghost use Rattle.dir_disk.specs.Children.{Begins, CanStart, Child, Ends, Given a
 ghost use Rattle.dir_disk.specs.Lent.{IsFree, IsNoOutput};
 ghost use Rattle.dir_disk.specs.Moments.{clock, files};
 ghost use Rattle.dir_disk.specs.State.{bytes_of};
-ghost use Rattle.dir_mem.specs.Memory.{faults_of, lent_of, told_of};
+ghost use Rattle.dir_mem.specs.Memory.{fail_of, faults_of, lent_of, told_of};
+ghost use Rattle.dir_mem.specs.Traces.{garbage};
 ghost use Rattle.site_mem.specs.Reaps.{EndsNext};
 ghost use Rattle.site_mem.specs.Plans.{FailsIf, IsNext, is_held, status_of};
-ghost use Rattle.site_mem.specs.Ends.{garbage, is_zero};
+ghost use Rattle.site_mem.specs.Ends.{is_zero};
 
 use crate::order::Order;
 use crate::plan::{Plan, is_zero};
 use crate::roles::Roles;
 use dir_disk::{Ended, LogEntry, StartFault};
-use dir_mem::{Loan, MemDir};
+use dir_mem::{GARBAGE, Loan, MemDir};
 use peg_base::{Attempt, Path, Words};
 use peg_text::NoMemory;
 use std::alloc::Global;
 use std::marker::{Model, PhantomData};
-
-/// What a child leaves that hasn't done its work.
-const GARBAGE: &[u8] = b"garbage\n";
 
 /// What a start was given: the words, the bytes of the input, and how many calls of the directory were made before it.
 #[derive(Drop)]
@@ -89,7 +87,7 @@ struct Running<R: Roles + Drop> {
 impl<R: Roles + Drop> Model for Running<R> {
     ghost use Rattle.std.specs.Prelude.{◌≡◌};
     ghost use Rattle.dir_disk.specs.Children.{Child};
-    ghost use Rattle.site_mem.specs.Ends.{garbage};
+    ghost use Rattle.dir_mem.specs.Traces.{garbage};
 
     ghost Value = { Child };
 
@@ -171,6 +169,7 @@ impl<R: Roles + Drop> Roster<R> {
         ensures fails { FailsIf false result }
         ensures lent { lent_of dir.new ≡ loans_of self.new.seen.running }
         ensures faults { faults_of dir.new ≡ faults_of dir.old }
+        ensures fail { fail_of dir.new ≡ fail_of dir.old }
     {
         let Ok(copies) = Copies::new(alloc, attempt, &given) else {
             return Err(StartFault::NoMemory);
@@ -216,6 +215,7 @@ impl<R: Roles + Drop> Roster<R> {
         ensures running { self.new.seen.running ≡ self.old.seen.running }
         ensures lent { lent_of dir.new ≡ lent_of dir.old }
         ensures faults { faults_of dir.new ≡ faults_of dir.old }
+        ensures fail { fail_of dir.new ≡ fail_of dir.old }
         ensures fails { FailsIf true result }
     {
         let Ok(noted) = attempt.copy(alloc) else {
@@ -241,6 +241,7 @@ impl<R: Roles + Drop> Roster<R> {
         ensures given { self.new.given ≡ self.old.given }
         ensures lent { lent_of dir.new ≡ loans_of self.new.seen.running }
         ensures faults { faults_of dir.new ≡ faults_of dir.old }
+        ensures fail { fail_of dir.new ≡ fail_of dir.old }
     {
         let place = next_place(plan, &self.log, &self.running);
         let Running {

@@ -13,8 +13,9 @@ impl<R: Roles + Drop> Site for MemSite<R> {
     ghost use Rattle.dir_disk.specs.Lent.{IsFree, IsNoOutput};
     ghost use Rattle.dir_disk.specs.Moments.{clock, files};
     ghost use Rattle.dir_disk.specs.State.{bytes_of};
-    ghost use Rattle.dir_mem.specs.Memory.{faults_of, told_of};
-    ghost use Rattle.site_mem.specs.Ends.{garbage, is_zero};
+    ghost use Rattle.dir_mem.specs.Memory.{fail_of, faults_of, told_of};
+    ghost use Rattle.dir_mem.specs.Traces.{garbage};
+    ghost use Rattle.site_mem.specs.Ends.{is_zero};
     ghost use Rattle.site_mem.specs.Reaps.{EndsNext};
     ghost use Rattle.site_mem.specs.Plans.{FailsIf, IsNext, is_among, status_of};
 
@@ -42,6 +43,7 @@ impl<R: Roles + Drop> Site for MemSite<R> {
         ensures given { let one : Gives = record { words = words.now; input = bytes_of (files (told_of self.old.dir) input.now).now; moment = clock (told_of self.old.dir) } in
             Hands one self.old.given self.new.given result }
         ensures faults { faults_of self.new.dir ≡ faults_of self.old.dir }
+        ensures fail { fail_of self.new.dir ≡ fail_of self.old.dir }
         ensures voice { self.new.voice ≡ self.old.voice }
         ensures plan { self.new.plan ≡ self.old.plan }
 
@@ -67,6 +69,7 @@ impl<R: Roles + Drop> Site for MemSite<R> {
         ensures ended { EndsNext R.gives self.old.plan result.attempt result.status self.old.seen self.new.seen (told_of self.old.dir) (told_of self.new.dir) }
         ensures given { self.new.given ≡ self.old.given }
         ensures faults { faults_of self.new.dir ≡ faults_of self.old.dir }
+        ensures fail { fail_of self.new.dir ≡ fail_of self.old.dir }
         ensures voice { self.new.voice ≡ self.old.voice }
         ensures plan { self.new.plan ≡ self.old.plan }
     {

@@ -1,4 +1,4 @@
-ghost use Rattle.std.specs.Prelude.{◌≡◌, ◌+◌, ◌<◌, ◌≤◌, [], ◌∷◌, ◌++◌, Some, OnOk, OnErr, length};
+ghost use Rattle.std.specs.Prelude.{◌≡◌, ◌+◌, ◌<◌, ◌≤◌, [], ◌∷◌, ◌++◌, Some, OnOk, OnErr, IsErrOf, length};
 ghost use Rattle.std.specs.Vec.{vec_len, vec_capacity};
 ghost use Rattle.dir_disk.specs.Causes.{HasCause};
 ghost use Rattle.dir_disk.specs.Says.{with_say};
@@ -79,6 +79,8 @@ impl Voice {
         ensures fails { FailsIf (is_muted self.old) result }
         ensures mute { self.new.mute ≡ self.old.mute }
         ensures cause { HasCause SayFault.Failed self.old.faults self.new.faults result }
+        ensures steady { OnOk result (self.new.faults ≡ self.old.faults) }
+        ensures uncounted { IsErrOf result SayFault.NoMemory → self.new.faults ≡ self.old.faults }
     {
         let due = self.mute.contains(&(self.says.len() as u64));
         let Ok(kept) = Vec::from_slice(alloc, bytes) else {
