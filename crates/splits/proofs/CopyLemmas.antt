@@ -11,7 +11,7 @@ use Rattle.std.proofs.lemmas.List.Edits.{between_more, between_none, get_or-betw
 use Rattle.std.proofs.lemmas.Slice.{between_to_end}
 use Rattle.peg_base.specs.Names.{Names, same_path}
 use Rattle.peg_base.proofs.Under.{same_path_comm}
-use Rattle.dir_disk.specs.State.{Content, Held, State, StandsOutside, bytes_of, after_append}
+use Rattle.dir_disk.specs.State.{Content, Held, State, StandsOutside, bytes_of, after_append, bytes_at}
 use Rattle.dir_disk.specs.Keeping.{StandsBut, HasWritten}
 use Rattle.dir_disk.specs.Moments.{Told, Through, Both, files}
 use Rattle.dir_disk.proofs.Through.{weaker}
@@ -21,7 +21,7 @@ use Rattle.peg_text.specs.Records.{cut_of, records_of}
 use Rattle.splits.specs.declared.table.Split.{Split}
 use Rattle.splits.specs.declared.copying.Progress.{Progress}
 use Rattle.splits.specs.Lines.{lines_text}
-use Rattle.splits.specs.Copying.{HasNoLfBetween, IsLineEnd, BeginsAt, IsCopied, IsCopying, HasCopied, begun, bytes_at, is_unended, lines_up_to, lines_between}
+use Rattle.splits.specs.Copying.{HasNoLfBetween, IsLineEnd, BeginsAt, IsCopied, IsCopying, HasCopied, begun, is_unended, lines_up_to, lines_between}
 use Rattle.splits.proofs.CutLemmas.{whole-append, unended-push}
 use Rattle.splits.proofs.LineLemmas.{up_to_all, up_to_lf}
 use Rattle.splits.proofs.StartLemmas.{StandsAt, stands_inside, stands_byte, stands_read, stands_whole}

@@ -5,13 +5,13 @@ use Rattle.std.proofs.lemmas.List.{take_min, take-take, get_or-drop, length-drop
 use Rattle.memchr.specs.Find.{IsFirstByte, is_byte}
 use Rattle.peg_base.specs.Names.{Names}
 use Rattle.dir_disk.specs.declared.dir.DirFault.{DirFault}
-use Rattle.dir_disk.specs.State.{State, IsSound}
+use Rattle.dir_disk.specs.State.{State, IsSound, bytes_at}
 use Rattle.dir_disk.specs.Calls.{Look, Does}
 use Rattle.dir_disk.specs.Moments.{Told, Through, Both, files}
 use Rattle.dir_disk.proofs.Through.{goes_on, kept}
 use Rattle.splits.specs.declared.table.Split.{Split}
 use Rattle.splits.specs.Lines.{split_lines}
-use Rattle.splits.specs.Copying.{HasNoLfBetween, IsFirstLf, IsLineEnd, BeginsAt, bytes_at, lines_up_to, lines_between}
+use Rattle.splits.specs.Copying.{HasNoLfBetween, IsFirstLf, IsLineEnd, BeginsAt, lines_up_to, lines_between}
 use Rattle.splits.proofs.LineLemmas.{no_line_behind, lines_above, lines_from_lf, split_lines-first}
 
 -- ---- a part of the file

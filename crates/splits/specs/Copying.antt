@@ -3,14 +3,11 @@ use Rattle.std.specs.Prelude.{◌≡◌, ◌≢◌, ℕ, ◌-◌, ◌<◌, ◌�
 use Rattle.std.specs.List.{between}
 use Rattle.peg_base.specs.Names.{Names, same_path}
 use Rattle.peg_text.specs.Records.{cut_of, records_of}
-use Rattle.dir_disk.specs.State.{State, bytes_of}
+use Rattle.dir_disk.specs.State.{State, bytes_at}
 use Rattle.dir_disk.specs.Calls.{HasFile, CanAppend}
 use Rattle.splits.specs.declared.copying.Progress.{Progress}
 use Rattle.splits.specs.declared.table.Split.{Split}
 use Rattle.splits.specs.Lines.{split_lines}
-
-abbrev pub bytes_at : State → Names → List ℕ
-bytes_at state path = bytes_of (state path).now
 
 -- ---- LFs
 

@@ -6,8 +6,8 @@ ghost use Rattle.dir_disk.specs.Causes.{HasCause};
 ghost use Rattle.dir_disk.specs.Keeping.{StandsBut};
 ghost use Rattle.dir_disk.specs.Lent.{IsFree, IsNoOutput};
 ghost use Rattle.dir_disk.specs.Moments.{Both, Through, files};
-ghost use Rattle.dir_disk.specs.State.{StandsOutside};
-ghost use Rattle.splits.specs.Copying.{HasCopied, IsCopying, IsLineEnd, begun, bytes_at, is_unended, lines_between};
+ghost use Rattle.dir_disk.specs.State.{StandsOutside, bytes_at};
+ghost use Rattle.splits.specs.Copying.{HasCopied, IsCopying, IsLineEnd, begun, is_unended, lines_between};
 ghost use Rattle.splits.specs.Lines.{lines_text};
 
 use crate::fault::SplitFault;

@@ -3,7 +3,8 @@ ghost use Rattle.dir_disk.specs.Calls.{HasFile};
 ghost use Rattle.dir_disk.specs.Causes.{HasCause};
 ghost use Rattle.dir_disk.specs.Moments.{Both, Through, files};
 ghost use Rattle.dir_disk.specs.Lent.{IsNoOutput};
-ghost use Rattle.splits.specs.Copying.{BeginsAt, IsLineEnd, bytes_at};
+ghost use Rattle.dir_disk.specs.State.{bytes_at};
+ghost use Rattle.splits.specs.Copying.{BeginsAt, IsLineEnd};
 
 use crate::copying::PIECE;
 use crate::fault::SplitFault;

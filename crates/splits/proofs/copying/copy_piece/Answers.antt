@@ -3,9 +3,9 @@ use Rattle.std.specs.Prelude.{unwrap_or, vec_len}
 use Rattle.std.proofs.lemmas.Bool.{eqb-true, eqb-false}
 use Rattle.peg_base.proofs.Under.{under-refl}
 use Rattle.dir_disk.specs.Moments.{Told, files}
-use Rattle.dir_disk.specs.State.{after_append}
+use Rattle.dir_disk.specs.State.{after_append, bytes_at}
 use Rattle.dir_disk.proofs.Keeping.{append_stands, look_stands, stands_then}
-use Rattle.splits.specs.Copying.{HasCopied, IsLineEnd, bytes_at}
+use Rattle.splits.specs.Copying.{HasCopied, IsLineEnd}
 use Rattle.splits.proofs.StartLemmas.{read_end}
 use Rattle.splits.proofs.CopyLemmas.{copying_ended, piece_copied}
 use Rattle.splits.proofs.copying.copy_piece.Goals as goal

@@ -1,8 +1,7 @@
 use Rattle.std.proofs.Common.{◌≡◌, ◌^◌, ◌≤◌, ◌∙◌, ap, length, arith, rules}
 use Rattle.dir_disk.specs.Moments.{files}
-use Rattle.dir_disk.specs.State.{bytes_of}
+use Rattle.dir_disk.specs.State.{bytes_of, bytes_at}
 use Rattle.dir_disk.proofs.Keeping.{stands_then}
-use Rattle.splits.specs.Copying.{bytes_at}
 use Rattle.splits.proofs.CopyLemmas.{copying_ended}
 use Rattle.splits.proofs.copying.copy_pieces.Goals as goal
 

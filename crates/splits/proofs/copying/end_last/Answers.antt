@@ -1,9 +1,8 @@
 use Rattle.std.proofs.Common.{[], ◌∷◌, Some, ◌∙◌, ap, sym}
 use Rattle.peg_base.proofs.Under.{under-refl}
 use Rattle.dir_disk.specs.Moments.{files}
-use Rattle.dir_disk.specs.State.{bytes_of}
+use Rattle.dir_disk.specs.State.{bytes_of, bytes_at}
 use Rattle.dir_disk.proofs.Keeping.{append_stands, appended_now}
-use Rattle.splits.specs.Copying.{bytes_at}
 use Rattle.splits.proofs.CutLemmas.{records_text-ended, records_text-unended}
 use Rattle.splits.proofs.copying.end_last.Goals as goal
 

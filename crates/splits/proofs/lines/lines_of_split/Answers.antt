@@ -1,12 +1,12 @@
 use Rattle.std.proofs.Common.{◌≡◌, [], Some, None, refl, ◌∙◌, ap, sym, length}
 use Rattle.std.proofs.lemmas.Result.{IfOk-weaker}
 use Rattle.peg_base.proofs.Under.{under-refl}
-use Rattle.dir_disk.specs.State.{after_append}
+use Rattle.dir_disk.specs.State.{after_append, bytes_at}
 use Rattle.dir_disk.specs.Moments.{Told, files}
 use Rattle.dir_disk.proofs.Keeping.{append_stands, stands_then}
 use Rattle.dir_disk.proofs.Through.{kept}
 use Rattle.splits.specs.Lines.{split_lines}
-use Rattle.splits.specs.Copying.{BeginsAt, bytes_at, lines_between}
+use Rattle.splits.specs.Copying.{BeginsAt, lines_between}
 use Rattle.splits.proofs.CopyLemmas.{stands_looked, begun_copying, none_written, bytes_looked, begins_before, all_written}
 use Rattle.splits.proofs.lines.lines_of_split.Goals as goal
 

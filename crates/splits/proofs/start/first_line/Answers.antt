@@ -1,6 +1,7 @@
 use Rattle.std.proofs.Common.{take, arith}
 use Rattle.dir_disk.specs.Moments.{files}
-use Rattle.splits.specs.Copying.{BeginsAt, IsLineEnd, bytes_at}
+use Rattle.dir_disk.specs.State.{bytes_at}
+use Rattle.splits.specs.Copying.{BeginsAt, IsLineEnd}
 use Rattle.std.proofs.lemmas.Result.{IfOk-weaker}
 use Rattle.splits.proofs.StartLemmas.{begins_at}
 use Rattle.splits.proofs.start.first_line.Goals as goal

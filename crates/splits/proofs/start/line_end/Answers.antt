@@ -2,7 +2,7 @@ use Rattle.std.proofs.Common.{◌≡◌, ◌+◌, ◌∙◌, ◌≤◌, ap, sym,
 use Rattle.std.proofs.lemmas.Bool.{eqb-true}
 use Rattle.dir_disk.specs.Moments.{files}
 use Rattle.memchr.specs.Find.{IsFirstByte, is_byte}
-use Rattle.splits.specs.Copying.{bytes_at}
+use Rattle.dir_disk.specs.State.{bytes_at}
 use Rattle.splits.proofs.StartLemmas.{StandsAt, stands_whole, read_end, none_found, first_found, first_up_to, none_up_to, searched_more, looked_more, read_before}
 use Rattle.splits.proofs.start.line_end.Goals as goal
 

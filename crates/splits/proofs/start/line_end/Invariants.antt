@@ -1,6 +1,7 @@
 use Rattle.std.proofs.Common.{◌≡◌, ◌-◌, ◌≤◌}
 use Rattle.dir_disk.specs.Moments.{Both, Through, files}
-use Rattle.splits.specs.Copying.{HasNoLfBetween, bytes_at}
+use Rattle.dir_disk.specs.State.{bytes_at}
+use Rattle.splits.specs.Copying.{HasNoLfBetween}
 use Rattle.splits.proofs.start.line_end.Given as goal
 
 abbrev pub invariant-loop-place : goal.invariant-loop-place
