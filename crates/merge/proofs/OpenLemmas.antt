@@ -4,13 +4,13 @@ use Rattle.std.specs.List.{All}
 use Rattle.std.proofs.lemmas.List.{map-append, map_more, take_more, take-map, get_or-map, length-map}
 use Rattle.std.proofs.lemmas.List.Elements.{All-get_or}
 use Rattle.peg_base.specs.Names.{Names}
-use Rattle.dir_disk.specs.State.{State}
+use Rattle.dir_disk.specs.State.{State, bytes_at}
 use Rattle.dir_disk.specs.Lent.{Loan, IsNoOutput}
 use Rattle.dir_disk.proofs.Keeping.{other_path}
 use Rattle.pairs.specs.Pairs.{Pair, pairs_in, sorted_pairs, IsInOrder}
 use Rattle.merge.specs.declared.source.Source.{Source}
 use Rattle.merge.specs.Runs.{IsRun, lists_at, merged_at, ten_merged}
-use Rattle.merge.specs.Sources.{all_of, bytes_at, left_of, lefts, IsSource}
+use Rattle.merge.specs.Sources.{all_of, left_of, lefts, IsSource}
 use Rattle.pieces.specs.Pieces.{IsVacant}
 
 abbrev pub path_of : Source → Names

@@ -12,7 +12,7 @@ use Rattle.peg_base.specs.Names.{Names, under, same_path}
 use Rattle.peg_base.proofs.Under.{same_path-other, under-append, under-children, under-nested, under-refl, under-trans}
 use Rattle.digit_names.specs.Digits.{digits}
 use Rattle.digit_names.proofs.DigitLemmas.{digits_tell_numbers}
-use Rattle.dir_disk.specs.State.{Content, Held, State, StandsOutside, bytes_of}
+use Rattle.dir_disk.specs.State.{Content, Held, State, StandsOutside, bytes_of, bytes_at}
 use Rattle.dir_disk.specs.Lent.{Loan, IsNoOutput}
 use Rattle.dir_disk.specs.Moments.{Told, Through, Both, files}
 use Rattle.dir_disk.proofs.Lendings.{no_output}
@@ -21,8 +21,8 @@ use Rattle.dir_disk.specs.Keeping.{HasWritten, StandsBut}
 use Rattle.dir_disk.proofs.Keeping.{other_path}
 use Rattle.pairs.specs.Pairs.{Pair, IsPlain, IsInOrder, pairs_in, pairs_text, sorted_pairs}
 use Rattle.pairs.proofs.PairLemmas.{sorted_is_in_order, sorted_is_permutation, permutations_sort_alike, pairs_read_back}
-use Rattle.merge.specs.Runs.{ArePassesFree, IsAfterPasses, IsRun, HasPasses, StandsBesideMerge, StandsBesidePasses, after_passes, lists_at, merge_name, merge_of, pass_pairs, passes, queue_of, ten_merged}
-use Rattle.merge.specs.Sources.{all_of, bytes_at}
+use Rattle.merge.specs.Runs.{ArePassesFree, IsAfterPasses, IsRun, HasPasses, StandsBesideMerge, StandsBesidePasses, StandsButMerge, after_passes, lists_at, merge_name, merge_of, pass_pairs, passes, queue_of, ten_merged}
+use Rattle.merge.specs.Sources.{all_of}
 use Rattle.pieces.specs.Pieces.{IsVacant}
 
 -- ---- lists
@@ -230,6 +230,11 @@ pub passes_stand_by : (scratch out : Names) (count : ℕ) (lists : List (List Pa
 passes_stand_by scratch out count lists s t outside above made stands number below =
     let apart = child_apart scratch out (merge_name number) outside above in
     ap (λ (h : Held). h.now) (stands (merge_of scratch number) (same_path-other out (merge_of scratch number) (λ same. false≢true (sym apart.1 ∙ ap (λ (p : Names). under out p) (sym same) ∙ under-refl out)))) ∙ made number below
+
+-- the passes and the last merge change nothing but what they write
+pub merge_alone : (runs : List Names) (scratch out : Names) (count : ℕ) (entry s t : State) → IsAfterPasses runs scratch count entry s → StandsBut out s t → StandsButMerge out scratch count entry t
+merge_alone runs scratch out count entry s t after stands path other apart =
+    stands path other ∙ after.others path apart
 
 -- ---- at every moment
 

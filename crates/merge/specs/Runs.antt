@@ -2,12 +2,12 @@
 use Rattle.std.specs.Prelude.{◌≡◌, ℕ, zero, suc, ◌-◌, ◌*◌, ◌/◌, ◌<◌, false, List, [], ◌∷◌, ◌++◌, All, Some, take, drop, map, codes}
 use Rattle.std.specs.List.{range_with_len}
 use Rattle.peg_base.specs.Names.{Names, under, same_path}
-use Rattle.dir_disk.specs.State.{State}
+use Rattle.dir_disk.specs.State.{State, bytes_at}
 use Rattle.dir_disk.specs.Calls.{HasFile}
 use Rattle.dir_disk.specs.Lent.{Loan, IsFree}
 use Rattle.digit_names.specs.Digits.{digits}
 use Rattle.pairs.specs.Pairs.{Pair, IsPlain, IsInOrder, pairs_in, pairs_text, sorted_pairs}
-use Rattle.merge.specs.Sources.{all_of, bytes_at}
+use Rattle.merge.specs.Sources.{all_of}
 use Rattle.pieces.specs.Pieces.{IsVacant}
 
 -- the pairs of files
@@ -70,6 +70,11 @@ StandsBesidePasses scratch count entry state =
 abbrev pub StandsBesideMerge : Names → Names → ℕ → State → State → Type 0
 StandsBesideMerge out scratch count entry state =
     (path : Names) → under out path ≡ false → ((number : ℕ) → number < count → under (merge_of scratch number) path ≡ false) → state path ≡ entry path
+
+-- the file that is written and the runs of these passes alone have changed
+abbrev pub StandsButMerge : Names → Names → ℕ → State → State → Type 0
+StandsButMerge out scratch count entry state =
+    (path : Names) → same_path out path ≡ false → ((number : ℕ) → number < count → same_path (merge_of scratch number) path ≡ false) → state path ≡ entry path
 
 -- each pass has made its run
 abbrev pub HasPasses : Names → ℕ → List (List Pair) → State → Type 0

@@ -2,13 +2,10 @@
 use Rattle.std.specs.Prelude.{◌≡◌, ℕ, ◌+◌, ◌*◌, ◌<◌, ◌≤◌, min, true, false, if◌then◌else◌, List, [], ◌∷◌, ◌++◌, Option, Some, None, drop, length, map, slice_index_or}
 use Rattle.std.specs.List.{flat_map}
 use Rattle.peg_base.specs.Names.{Names, same_path}
-use Rattle.dir_disk.specs.State.{State, bytes_of}
+use Rattle.dir_disk.specs.State.{State, bytes_at}
 use Rattle.dir_disk.specs.Calls.{HasFile}
 use Rattle.pairs.specs.Pairs.{Pair, pair_before, pairs_in, IsInOrder}
 use Rattle.merge.specs.declared.source.Source.{Source}
-
-abbrev pub bytes_at : State → Names → List ℕ
-bytes_at state path = bytes_of (state path).now
 
 -- what no line was taken from yet
 abbrev pub untaken : State → Source → List ℕ

@@ -6,7 +6,7 @@ ghost use Rattle.dir_disk.specs.Lent.{IsFree, IsNoOutput};
 ghost use Rattle.dir_disk.specs.Moments.{Both, Through, files};
 ghost use Rattle.dir_disk.specs.State.{StandsOutside};
 ghost use Rattle.pairs.specs.Pairs.{pairs_text};
-ghost use Rattle.merge.specs.Runs.{ArePassesFree, ArePassesVacant, HasPasses, IsAfterPasses, IsRun, StandsBesideMerge, StandsBesidePasses, lists_at, merge_of, merged_at, passes, queue_of, ten_merged};
+ghost use Rattle.merge.specs.Runs.{ArePassesFree, ArePassesVacant, HasPasses, IsAfterPasses, IsRun, StandsBesideMerge, StandsBesidePasses, StandsButMerge, lists_at, merge_of, merged_at, passes, queue_of, ten_merged};
 ghost use Rattle.merge.specs.Sources.{all_of};
 ghost use Rattle.pieces.specs.Pieces.{IsVacant};
 
@@ -127,8 +127,8 @@ fn run_passes<D: Dir>(
 /// answers how many they are. Without runs the file is empty.
 ///
 /// Ten runs are read at a time at most. While there are more, the first ten are merged into a new run that goes last,
-/// the file `merge-N` in the folder `scratch`, with N from 0 in twenty digits. After a refusal `out` and these files
-/// may have anything, or not be there.
+/// the file `merge-N` in the folder `scratch`, with N from 0 in twenty digits. Nothing changes but `out` and these files;
+/// after a refusal they may have anything, or not be there.
 pub fn merge_runs<D: Dir>(
     alloc: Global,
     dir: &mut D,
@@ -151,6 +151,8 @@ pub fn merge_runs<D: Dir>(
         → OnOk result ((files (D.told dir.new) out.now).now ≡ Some (pairs_text (merged_at (files (D.told dir.old)) runs.now))) }
     ensures passes { let lists = lists_at (files (D.told dir.old)) runs.now in D.tells
         → OnOk result (HasPasses scratch.now (passes (length runs.now)) lists (files (D.told dir.new))) }
+    ensures others { let entry = files (D.told dir.old) in D.tells
+        → OnOk result (StandsButMerge out.now scratch.now (passes (length runs.now)) entry (files (D.told dir.new))) }
     ensures steps { let entry = files (D.told dir.old) in D.tells
         → Through (Both (StandsBesideMerge out.now scratch.now (passes (length runs.now)) entry)) (D.told dir.old) (D.told dir.new) }
     ensures lent { D.lent dir.new ≡ D.lent dir.old }

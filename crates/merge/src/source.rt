@@ -6,7 +6,8 @@ ghost use Rattle.dir_disk.specs.Causes.{HasCause};
 ghost use Rattle.dir_disk.specs.Lent.{IsNoOutput};
 ghost use Rattle.dir_disk.specs.Moments.{Both, Through, files};
 ghost use Rattle.pairs.specs.Pairs.{pairs_in};
-ghost use Rattle.merge.specs.Sources.{bytes_at, left_of, untaken};
+ghost use Rattle.dir_disk.specs.State.{bytes_at};
+ghost use Rattle.merge.specs.Sources.{left_of, untaken};
 
 use crate::fault::MergeFault;
 use crate::head::Head;

@@ -11,7 +11,7 @@ use Rattle.pairs.specs.Pairs.{Pair, pairs_text, sorted_pairs}
 use Rattle.merge.specs.Runs.{IsAfterPasses, IsRun, after_passes, lists_at, passes, queue_of}
 use Rattle.merge.specs.Sources.{all_of}
 use Rattle.merge.proofs.OpenLemmas.{lists_from, pairs_at}
-use Rattle.merge.proofs.PassLemmas.{last_length, last_sorted, length_queue, merge_stands, passes_alone, passes_stand_by, queue_lent, vacant_out}
+use Rattle.merge.proofs.PassLemmas.{last_length, last_sorted, length_queue, merge_alone, merge_stands, passes_alone, passes_stand_by, queue_lent, vacant_out}
 use Rattle.merge.proofs.WriteLemmas.{ok_then}
 use Rattle.merge.proofs.passes.merge_runs.Goals as goal
 
@@ -94,6 +94,14 @@ returns-clause-passes g c =
     let mid = files (g.D.Dir.told c.run_passes.new.dir) in
     let new = files (g.D.Dir.told c.merge_files.new.dir) in
     ok_then c.merge_files.result (λ written. passes_stand_by c.args.scratch.now c.args.out.now (passes (length runs)) (lists_at entry runs) mid new c.requires.outside c.requires.above (c.in_ok-queue.ensures.done tells).made written.others) (c.merge_files.ensures.written tells)
+
+pub returns-clause-others : goal.returns-clause-others
+returns-clause-others g c =
+    λ tells.
+    let entry = files (g.D.Dir.told c.args.dir.now) in
+    let mid = files (g.D.Dir.told c.run_passes.new.dir) in
+    let new = files (g.D.Dir.told c.merge_files.new.dir) in
+    ok_then c.merge_files.result (λ written. merge_alone c.args.runs.now c.args.scratch.now c.args.out.now (passes (length c.args.runs.now)) entry mid new (c.in_ok-queue.ensures.done tells) written.others) (c.merge_files.ensures.written tells)
 
 pub returns-clause-steps : goal.returns-clause-steps
 returns-clause-steps g c =

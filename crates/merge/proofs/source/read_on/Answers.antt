@@ -1,7 +1,7 @@
 use Rattle.std.proofs.Common.{◌≡◌, ◌∙◌, ◌++◌, ap, sym, length, arith}
 use Rattle.std.proofs.lemmas.Bool.{eqb-true}
 use Rattle.dir_disk.specs.Moments.{files}
-use Rattle.merge.specs.Sources.{bytes_at}
+use Rattle.dir_disk.specs.State.{bytes_at}
 use Rattle.merge.proofs.SourceLemmas.{read_held, read_ended}
 use Rattle.merge.proofs.source.read_on.Goals as goal
 

@@ -1,6 +1,7 @@
 use Rattle.std.proofs.Common.{◌≡◌, ◌++◌, ◌-◌, ◌^◌, ◌≤◌, drop}
 use Rattle.dir_disk.specs.Moments.{Both, Through, files}
-use Rattle.merge.specs.Sources.{bytes_at, untaken}
+use Rattle.dir_disk.specs.State.{bytes_at}
+use Rattle.merge.specs.Sources.{untaken}
 use Rattle.merge.proofs.source.Source.whole_line.Given as goal
 
 abbrev pub invariant-loop-alloc : goal.invariant-loop-alloc
