@@ -18,7 +18,8 @@ use Rattle.committer.specs.Folders.{IsUnmarked}
 use Rattle.job.specs.declared.fault.JobFault.{JobFault}
 use Rattle.job.specs.declared.fault.JobFault.TheVariants.{TaskFailed, Disk, NoMemory}
 use Rattle.job.specs.declared.spec.JobReport.{JobReport}
-use Rattle.job.specs.Failing.{IsEntryOf, done_of, failed_of, is_done_of, is_failed_of, is_made, is_of, made_in, same_phase, steps_of}
+use Rattle.peg_base.specs.Tasks.{same_phase}
+use Rattle.job.specs.Failing.{IsEntryOf, done_of, failed_of, is_done_of, is_failed_of, is_made, is_of, made_in, steps_of}
 use Rattle.job.specs.Going.{commits_of, givens_of}
 use Rattle.job.specs.Logged.{AreReduced, HasFewFailures, IfTaskFailed, IsCauseOf, IsCutShort, IsLeftBy, JobAnswers, JobLog, MapLog, NamesNoTask, PhaseLog, TellsOfJob, of_phase}
 use Rattle.job.specs.Output.{Plan, map_inputs, reduce_inputs}

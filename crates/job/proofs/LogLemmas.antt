@@ -21,7 +21,8 @@ use Rattle.task_core.proofs.History.{Counts, Tells, Tells-run, dead_iff, done_if
 use Rattle.job.specs.declared.fault.JobFault.{JobFault}
 use Rattle.job.specs.declared.fault.JobFault.TheVariants.{TaskFailed, Disk, NoMemory}
 use Rattle.job.specs.Work.{Work, task_id}
-use Rattle.job.specs.Failing.{gained, IsEntryOf, step_of, steps_of, same_phase, is_of, is_failed_of, is_done_of, failed_of, done_of, made_in}
+use Rattle.peg_base.specs.Tasks.{same_phase}
+use Rattle.job.specs.Failing.{gained, IsEntryOf, step_of, steps_of, is_of, is_failed_of, is_done_of, failed_of, done_of, made_in}
 use Rattle.job.specs.Ran.{Answers, Ran, StopsEarly, TellsOf}
 
 same_phase-refl : (phase : Phase) → same_phase phase phase ≡ true
