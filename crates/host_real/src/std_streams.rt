@@ -1,4 +1,4 @@
-ghost use Rattle.std.specs.Prelude.{◌≡◌, None};
+ghost use Rattle.std.specs.Prelude.{◌≡◌, None, OnOk, IsErrOf};
 ghost use Rattle.dir_disk.specs.Causes.{HasCause};
 
 use crate::reads::read_some;
@@ -137,7 +137,9 @@ impl<'r, R: Print> Console for StdConsole<'r, R> {
 
 /// Says the bytes on standard output, and counts a fault.
 pub(crate) fn say_on(rt: &impl Print, say_faults: &mut u64, bytes: &[u8]) -> Result<(), SayFault>
-    ensures { HasCause SayFault.Failed say_faults.old say_faults.new result }
+    ensures cause { HasCause SayFault.Failed say_faults.old say_faults.new result }
+    ensures steady { OnOk result (say_faults.new ≡ say_faults.old) }
+    ensures uncounted { IsErrOf result SayFault.NoMemory → say_faults.new ≡ say_faults.old }
 {
     match rt.write_all(bytes) {
         Ok(()) => Ok(()),
