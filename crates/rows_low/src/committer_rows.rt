@@ -1,6 +1,6 @@
 ghost use Rattle.std.specs.Prelude.{◌≡◌, length, IfOk};
 
-use crate::tools::{empty, images_of, path_of, text_of};
+use crate::tools::{empty, images_of, text_of};
 use crate::tried_dir::TriedDir;
 use committer::{
     CommitFault, attempt_output, begin_sealed, commit_job, commit_task, drop_folder, is_whole,
@@ -9,6 +9,7 @@ use committer::{
 use dir_disk::Dir;
 use dir_mem::Image;
 use peg_base::{Attempt, Name, Path, Phase, TaskId};
+use rows_tools::path_of;
 use std::alloc::Global;
 use std::process::Abort;
 use std::test::Fail;

@@ -1,8 +1,9 @@
-use crate::tools::{empty, failing, images_of, path_of, text_of};
+use crate::tools::{empty, failing, images_of, text_of};
 use crate::tried_dir::TriedDir;
 use dir_disk::{Dir, DirFault};
 use dir_mem::{Image, MemDir};
 use peg_base::Path;
+use rows_tools::path_of;
 use std::alloc::Global;
 use std::test::Fail;
 

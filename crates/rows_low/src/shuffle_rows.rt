@@ -1,8 +1,9 @@
-use crate::tools::{empty, failing, path_of};
+use crate::tools::{empty, failing};
 use crate::tried_dir::TriedDir;
 use dir_disk::Dir;
 use job::{ShuffleFault, shuffle};
 use peg_base::Path;
+use rows_tools::path_of;
 use std::alloc::Global;
 use std::test::Fail;
 

@@ -1,11 +1,12 @@
 ghost use Rattle.std.specs.Prelude.{◌≡◌, ◌≢◌, ◌<◌, true, All, IfOk};
 
-use crate::tools::{empty, failing, path_of};
+use crate::tools::{empty, failing};
 use crate::tried_dir::TriedDir;
 use dir_disk::Dir;
 use partition::part_of;
 use peg_base::Path;
 use peg_text::{records, split_pair};
+use rows_tools::path_of;
 use spill::{Spill, SpillFault};
 use std::alloc::Global;
 use std::test::Fail;

@@ -1,6 +1,7 @@
-use crate::tools::{empty, path_of};
+use crate::tools::empty;
 use dir_disk::Dir;
 use peg_text::records;
+use rows_tools::path_of;
 use splits::{Split, lines_of_split, split_table};
 use std::alloc::Global;
 use std::test::Fail;

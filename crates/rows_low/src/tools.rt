@@ -3,24 +3,8 @@ ghost use Rattle.dir_mem.specs.Images.{CanBegin, image_of};
 
 use crate::tried_dir::TriedDir;
 use dir_mem::{Image, MemDir};
-use peg_base::{Name, Path};
 use std::alloc::Global;
 use std::test::Fail;
-
-/// The path of these names.
-pub(crate) fn path_of(alloc: Global, names: &[&[u8]]) -> Result<Path, Fail> {
-    let mut path = Path::root(alloc);
-    for text in names {
-        let Some(name) = Name::new(alloc, text)? else {
-            return Err("no name")?;
-        };
-        if path.names().len() >= 8 {
-            return Err("too many names")?;
-        }
-        path = path.child(alloc, &name)?;
-    }
-    Ok(path)
-}
 
 /// A directory without files, whose call of this number fails.
 pub(crate) fn failing(alloc: Global, call: u64) -> Result<TriedDir, Fail> {

@@ -1,9 +1,8 @@
-use crate::paths::path_of;
-use crate::tried_site::TriedSite;
 use dir_disk::{Console, Dir, Ended, LogEntry, SayFault, StartFault};
 use dir_mem::MemDir;
 use peg_base::{Attempt, Path, Phase, TaskId, Words};
 use peg_text::NoMemory;
+use rows_tools::{TriedSite, path_of};
 use site_mem::{MemSite, Order, Roles};
 use std::alloc::Global;
 use std::test::Fail;

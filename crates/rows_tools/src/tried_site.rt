@@ -12,13 +12,13 @@ use std::alloc::Global;
 /// A site in memory that tries what a call needs when it is made, where a caller would prove it: one that may not be made
 /// answers that there is no memory.
 #[derive(Drop)]
-pub(crate) struct TriedSite<R: Roles + Drop> {
+pub struct TriedSite<R: Roles + Drop> {
     pub site: MemSite<R>,
 }
 
 impl<R: Roles + Drop> TriedSite<R> {
     /// Starts a child, with all that a start needs tried.
-    pub(crate) fn launch(
+    pub fn launch(
         &mut self,
         alloc: Global,
         attempt: &Attempt,
@@ -36,7 +36,7 @@ impl<R: Roles + Drop> TriedSite<R> {
     }
 
     /// Waits for the end of a child, where one runs.
-    pub(crate) fn wait(&mut self) -> Option<Ended> {
+    pub fn wait(&mut self) -> Option<Ended> {
         if self.site.running() == 0 {
             return None;
         }
@@ -45,9 +45,9 @@ impl<R: Roles + Drop> TriedSite<R> {
 }
 
 impl<R: Roles + Drop> Dir for TriedSite<R> {
-    ghost use Rattle.std.specs.Prelude.{List};
+    ghost use Rattle.std.specs.Prelude.{ℕ, List};
     ghost use Rattle.dir_disk.specs.Children.{Given, Seen, loans_of};
-    ghost use Rattle.dir_mem.specs.Memory.{faults_of, told_of};
+    ghost use Rattle.dir_mem.specs.Memory.{fail_of, faults_of, told_of};
     ghost use Rattle.site_mem.specs.Voices.{Voiced};
     ghost use Rattle.site_mem.specs.Plans.{Planned};
 
@@ -59,9 +59,9 @@ impl<R: Roles + Drop> Dir for TriedSite<R> {
 
     ghost faults = { λ s. faults_of s.site.dir };
 
-    ghost Beside = { Seen × List Given × Voiced × Planned };
+    ghost Beside = { Seen × List Given × Voiced × Planned × List ℕ };
 
-    ghost beside = { λ s. (s.site.seen, s.site.given, s.site.voice, s.site.plan) };
+    ghost beside = { λ s. (s.site.seen, s.site.given, s.site.voice, s.site.plan, fail_of s.site.dir) };
 
     fn size(&mut self, alloc: Global, path: &Path) -> Result<Option<u64>, DirFault> {
         self.site.size(alloc, path)

@@ -2,8 +2,8 @@ use peg_base::{Name, Path};
 use std::alloc::Global;
 use std::test::Fail;
 
-/// The path of these names.
-pub(crate) fn path_of(alloc: Global, names: &[&[u8]]) -> Result<Path, Fail> {
+/// The path of these names, of which there are at most eight.
+pub fn path_of(alloc: Global, names: &[&[u8]]) -> Result<Path, Fail> {
     let mut path = Path::root(alloc);
     for text in names {
         let Some(name) = Name::new(alloc, text)? else {

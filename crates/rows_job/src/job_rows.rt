@@ -1,10 +1,9 @@
 use crate::bundled::Bundled;
-use crate::paths::path_of;
-use crate::tried_site::TriedSite;
 use dir_disk::Dir;
 use dir_mem::{Image, MemDir};
 use job::{JobFault, JobReport, JobSpec, run_job};
 use peg_base::{Attempt, Phase, TaskId, Words};
+use rows_tools::{TriedSite, path_of};
 use site_mem::{MemSite, Order};
 use std::alloc::Global;
 use std::test::Fail;
