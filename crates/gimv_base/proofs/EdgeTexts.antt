@@ -1,5 +1,7 @@
 -- An edge's entries from the texts of its nodes.
-use Rattle.std.proofs.Common.{◌≡◌, ℕ, Bool, List, [], ◌++◌, Option, Some, None, option_map, cond, decimal, ap, ◌∙◌, arith}
+use Rattle.std.proofs.Common.{◌≡◌, ℕ, ◌+◌, ◌*◌, Bool, List, [], ◌∷◌, ◌++◌, length, take, Option, Some, None, option_map, cond, decimal, sym, ap, ◌∙◌, arith}
+use Rattle.std.proofs.Math.Seq.{take-append-add}
+use Rattle.std.proofs.lemmas.List.{length-append, take_at}
 use Rattle.std.proofs.lemmas.Fmt.{decimal_digit}
 use Rattle.graph.specs.declared.edges.Edge.{Edge}
 use Rattle.gimv_base.specs.BaseRules.{edge_entries}
@@ -19,3 +21,19 @@ entries_by_texts both None s t is = cc
 entries_by_texts both (Some e) s t is =
     let texts : edge_texts e ≡ (s, t) = cc in
     ap Some (entries_are both e ∙ ap (λ (pair : List ℕ × List ℕ). unit_entries both pair.0 pair.1) texts)
+
+pub length_of_unit_entry : (column row : List ℕ) → length (unit_entry column row) ≡ length column + length row + 6
+length_of_unit_entry column row =
+    let value = 87 ∷ 32 ∷ (row ++ (32 ∷ 49 ∷ [])) in
+    omega (arith, length-append (column ++ (9 ∷ value)) (10 ∷ []), length-append column (9 ∷ value), length-append row (32 ∷ 49 ∷ []))
+
+-- what is written behind some bytes and in front of others
+pub written_behind : (front written past : List ℕ) (before size : ℕ) → length front ≡ before → length written ≡ size → take (before + size) (front ++ (written ++ past)) ≡ front ++ written
+written_behind front written past before size behind long =
+    ap (λ k. take (k + size) (front ++ (written ++ past))) (sym behind)
+    ∙ take-append-add front (written ++ past) size
+    ∙ ap (λ l. front ++ l) (take_at written past size long)
+
+pub length_of_unit_entries : (source target : List ℕ) → length (unit_entry target source ++ unit_entry source target) ≡ 2 * (length source + length target + 6)
+length_of_unit_entries source target =
+    omega (arith, length-append (unit_entry target source) (unit_entry source target), length_of_unit_entry target source, length_of_unit_entry source target)

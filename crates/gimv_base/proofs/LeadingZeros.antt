@@ -5,7 +5,7 @@ use Rattle.std.specs.Char.{is_ascii_digit}
 use Rattle.std.specs.Str.Parse.{digits_value}
 use Rattle.std.proofs.lemmas.Bool.{cases_Bool, and_parts, ltb-true}
 use Rattle.std.proofs.lemmas.List.{at_drop_more, get_or-drop}
-use Rattle.std.proofs.lemmas.Str.Parse.{IsDigitsTest, numerals_by_value}
+use Rattle.std.proofs.lemmas.Str.Parse.{IsDigitsTest, IsNumeralModel, numerals_by_value}
 use Rattle.std.proofs.lemmas.Fmt.{decimal-digits_value}
 use Rattle.peg_text.specs.Decimal.{is_short_numeral, decimal_of}
 
@@ -34,9 +34,12 @@ FollowsZeros-more text zeros so inside is =
 digits_test : IsDigitsTest (λ ds. list_all is_ascii_digit ds ≡ true)
 digits_test = search rules
 
+pub digit_numerals : IsNumeralModel (λ ds. list_all is_ascii_digit ds ≡ true) (digits_value 10)
+digit_numerals = numerals_by_value (λ ds. list_all is_ascii_digit ds ≡ true) digits_test
+
 -- digits with no leading zero, or just one, are how their number is written
 written_of_digits : (ds : List ℕ) → list_all is_ascii_digit ds ≡ true → 0 < length ds → (get_or ds 0 0 ≡ 48 → length ds ≡ 1) → digits_value 10 ds < 2 ^ 64 → decimal (digits_value 10 ds) ≡ ds
-written_of_digits = decimal-digits_value (numerals_by_value (λ ds. list_all is_ascii_digit ds ≡ true) digits_test)
+written_of_digits = decimal-digits_value digit_numerals
 
 -- the zeros end at the last digit, or at one that is none
 first_is_last : (text : List ℕ) (zeros : ℕ) → zeros < length text → (length text ≤ zeros + 1) ⊎ (get_or text zeros 0 ≢ 48) → get_or (drop zeros text) 0 0 ≡ 48 → length (drop zeros text) ≡ 1

@@ -4,3 +4,4 @@ pub mod ReadingLemmas
 pub mod ReadBackLemmas
 pub mod LeadingZeros
 pub mod EdgeTexts
+pub mod IdFields

@@ -11,6 +11,12 @@ use std::alloc::Global;
 /// How many bytes of an entry of weight 1 are neither its column nor its row: TAB, W, a blank, a blank, 1 and LF.
 const MARKS: usize = 6;
 
+/// The most digits of a node.
+const MOST_DIGITS: usize = 20;
+
+/// The most bytes of both entries of an edge.
+const MOST_BYTES: usize = 2 * (2 * MOST_DIGITS + MARKS);
+
 /// `entries one` and `entries both`: the entry of each edge, by its column, and that of the edge turned round.
 #[derive(Clone, Copy, Debug, PartialEq, Eq)]
 pub struct EntriesRole {
@@ -55,26 +61,37 @@ fn append_entries(
     ensures err { OnErr result (out.new.items ≡ out.old.items) }
 {
     let before = out.len();
-    let size = source.len() + target.len() + MARKS;
-    // Texts are copied into room of their length: appended one by one, each would test and store how long the list is.
-    out.resize(before + if both { 2 * size } else { size }, 0)?;
-    write_unit_entries(out, before, source, target, both);
+    // Room of a constant size is made in a few moves, and what isn't needed of it goes again.
+    out.extend_from_slice(&[0; MOST_BYTES])?;
+    let end = write_unit_entries(out, before, source, target, both);
+    out.truncate(end);
     Ok(())
 }
 
-/// Fills what follows the first `before` bytes with the entries of an edge, from the texts of its source and its target.
-fn write_unit_entries(list: &mut [u8], before: usize, source: &[u8], target: &[u8], both: bool)
+/// Writes the entries of an edge behind the first `before` bytes, from the texts of its source and its target. Answers
+/// where they end.
+fn write_unit_entries(
+    list: &mut [u8],
+    before: usize,
+    source: &[u8],
+    target: &[u8],
+    both: bool,
+) -> usize
     requires short { (length source.now ≤ 20) × (length target.now ≤ 20) }
-    requires room { length list.old ≡ before + (if both then 2 * (length source.now + length target.now + 6) else length source.now + length target.now + 6) }
-    ensures { list.new ≡ take before list.old ++ unit_entries both source.now target.now }
+    requires room { before + 92 ≤ length list.old }
+    ensures is { take result list.new ≡ take before list.old ++ unit_entries both source.now target.now }
+    ensures same { length list.new ≡ length list.old }
 {
     let size = source.len() + target.len() + MARKS;
     let (_, room) = list.split_at_mut(before);
-    let (entry, turned) = room.split_at_mut(size);
+    let (entry, rest) = room.split_at_mut(size);
     write_unit_entry(entry, target, source);
-    if both {
-        write_unit_entry(turned, source, target);
+    if !both {
+        return before + size;
     }
+    let (turned, _) = rest.split_at_mut(size);
+    write_unit_entry(turned, source, target);
+    before + 2 * size
 }
 
 /// Fills the room with an entry of weight 1, by its column, from the texts of its column and its row.

@@ -1,8 +1,18 @@
-ghost use Rattle.std.specs.Prelude.{◌≡◌, ◌<◌, ◌≤◌, ◌^◌, decimal, length, position, option_map, IfSome};
+ghost use Rattle.std.specs.Prelude.{◌≡◌, ◌<◌, ◌≤◌, ◌^◌, true, decimal, length, position, option_map, IfSome};
+ghost use Rattle.std.specs.Char.{is_ascii_digit};
+ghost use Rattle.std.specs.List.{list_all, prefix_len};
+ghost use Rattle.std.specs.Option.{is_some};
 ghost use Rattle.peg_text.specs.Decimal.{decimal_of};
 ghost use Rattle.gimv_base.specs.Fields.{around_blank, is_blank, number_below, tagged};
+ghost use Rattle.gimv_base.specs.Records.{id_of};
 
 use peg_text::read_decimal;
+
+/// One more than the greatest id.
+pub const IDS: u64 = 1 << 32;
+
+/// The most digits of which every number is an id.
+const SAFE_DIGITS: usize = 9;
 
 /// The number that a decimal text writes, where it is below `bound`, which is at most 2^32.
 pub fn read_below(text: &[u8], bound: u64) -> Option<u32>
@@ -13,6 +23,35 @@ pub fn read_below(text: &[u8], bound: u64) -> Option<u32>
         Some(number) if number < bound => Some(number as u32),
         _ => None,
     }
+}
+
+/// Whether digits write an id.
+pub fn is_id(digits: &[u8]) -> bool
+    requires { list_all is_ascii_digit digits.now ≡ true }
+    ensures { result ≡ is_some (id_of digits.now) }
+{
+    if digits.len() > SAFE_DIGITS {
+        return read_below(digits, IDS).is_some();
+    }
+    !digits.is_empty()
+}
+
+/// Whether a text writes an id.
+pub fn is_id_text(text: &[u8]) -> bool
+    ensures { result ≡ is_some (id_of text.now) }
+{
+    leading_digits(text) == text.len() && is_id(text)
+}
+
+/// How many digits a text begins with.
+pub fn leading_digits(text: &[u8]) -> usize
+    ensures { result ≡ prefix_len is_ascii_digit text.now }
+{
+    let mut count = 0;
+    while count < text.len() && text[count].is_ascii_digit() {
+        count += 1;
+    }
+    count
 }
 
 /// A decimal text without the zeros that lead it, which is how its number is written.

@@ -1,16 +1,20 @@
-ghost use Rattle.std.specs.Prelude.{◌≡◌, ◌≤◌, ◌^◌, length, IfOk, IfSome, option_map, option_and_then};
+ghost use Rattle.std.specs.Prelude.{◌≡◌, ◌≤◌, ◌^◌, length, IfOk, IfSome, None, true, option_map, option_and_then};
+ghost use Rattle.std.specs.Char.{is_ascii_digit};
+ghost use Rattle.std.specs.List.{list_all};
+ghost use Rattle.std.specs.Option.{is_some};
+ghost use Rattle.peg_text.specs.Pairs.{key_of, value_of};
 ghost use Rattle.gimv_base.specs.EdgeTexts.{edge_texts};
 ghost use Rattle.gimv_base.specs.Fields.{number_below, tagged};
 ghost use Rattle.gimv_base.specs.Records.{edge_record_of, entry_record_of, message_record_of, node_record_of, number_record_of, place_record_of, value_record_of, value_text_of};
 
-use crate::fields::{after_tag, around_blank, read_below, without_leading_zeros};
+use crate::fields::{
+    IDS, after_tag, around_blank, is_id, is_id_text, leading_digits, read_below,
+    without_leading_zeros,
+};
 use gimv_core::Gimv;
 use graph::Edge;
 use peg_text::{NoMemory, read_decimal, split_pair};
 use std::alloc::Global;
-
-/// One more than the greatest id.
-const IDS: u64 = 1 << 32;
 
 /// One more than the number of nodes whose values may have changed.
 const CHANGES: u64 = 257;
@@ -30,10 +34,34 @@ pub fn edge_texts(line: &[u8]) -> Option<(&[u8], &[u8])>
     ensures is { option_map (λ texts. (texts.0.now, texts.1.now)) result ≡ option_map edge_texts (edge_record_of line.now) }
     ensures short { IfSome result (λ texts. (length texts.0.now ≤ 20) × (length texts.1.now ≤ 20)) }
 {
-    let (key, value) = split_pair(line);
-    read_below(key, IDS)?;
-    read_below(value, IDS)?;
-    Some((without_leading_zeros(key), without_leading_zeros(value)))
+    let (source, target) = id_fields(line)?;
+    Some((without_leading_zeros(source), without_leading_zeros(target)))
+}
+
+/// The source and the target of an edge, as the record has them. `None` where the record is of another kind.
+fn id_fields(line: &[u8]) -> Option<(&[u8], &[u8])>
+    ensures some { IfSome result (λ fields. (fields.0.now ≡ key_of line.now) × (fields.1.now ≡ value_of line.now)) }
+    ensures is { is_some result ≡ is_some (edge_record_of line.now) }
+{
+    let (source, target) = split_digits(line)?;
+    if !is_id(source) || !is_id_text(target) {
+        return None;
+    }
+    Some((source, target))
+}
+
+/// The key and the value of a pair whose key is digits: one pass over the key finds both them and its TAB. `None` where
+/// the record isn't such a pair, and so no edge.
+fn split_digits(line: &[u8]) -> Option<(&[u8], &[u8])>
+    ensures some { IfSome result (λ pair. (pair.0.now ≡ key_of line.now) × (pair.1.now ≡ value_of line.now)) }
+    ensures digits { IfSome result (λ pair. list_all is_ascii_digit pair.0.now ≡ true) }
+    ensures none { result ≡ None → edge_record_of line.now ≡ None }
+{
+    let end = leading_digits(line);
+    if end < line.len() && line[end] == b'\t' {
+        return Some((&line[..end], &line[end + 1..]));
+    }
+    None
 }
 
 /// The id that a text writes after the tag P, where it is below `bound`, which is at most 2^32.

@@ -39,6 +39,22 @@ fn writes_entries_by_column(rt: HostRuntime) -> Result<(), RoleFault> {
 }
 
 #[test]
+fn takes_ids_of_each_length(rt: HostRuntime) -> Result<(), RoleFault> {
+    let alloc = rt.alloc();
+    let records: [&[u8]; 3] = [
+        b"000000000\t999999999",
+        b"1000000000\t4294967295",
+        b"00000000004294967295\t0",
+    ];
+    let out = written(alloc, EntriesRole::new(false), &records)?;
+    assert_eq!(rt;
+        out.as_slice(),
+        b"999999999\tW 0 1\n4294967295\tW 1000000000 1\n0\tW 4294967295 1\n".as_slice()
+    );
+    Ok(())
+}
+
+#[test]
 fn weighs_entries_by_degree(rt: HostRuntime) -> Result<(), RoleFault> {
     let alloc = rt.alloc();
     let out = written(alloc, DegreesRole::new(alloc), &[b"0\t1", b"0\t2", b"3\t0"])?;
@@ -64,7 +80,18 @@ fn gives_numbers_to_the_ids_of_places(rt: HostRuntime) -> Result<(), RoleFault> 
 #[test]
 fn refuses_bad_records(rt: HostRuntime) {
     let alloc = rt.alloc();
-    let edges: [&[u8]; 4] = [b"0", b"0\t", b"0\t4294967296", b"0\t1\t2"];
+    let edges: [&[u8]; 10] = [
+        b"0",
+        b"0\t",
+        b"\t0",
+        b"0 1",
+        b"0\t1x",
+        b"x0\t1",
+        b"0\t1\t2",
+        b"0\t4294967296",
+        b"4294967296\t0",
+        b"000000000000000000000\t0",
+    ];
     for record in edges {
         assert_eq!(rt;
             written(alloc, EntriesRole::new(true), &[record]).err(),
