@@ -1,9 +1,12 @@
 -- What a child reads and writes.
-use Rattle.std.specs.Prelude.{◌≡◌, ℕ, ◌-◌, ◌≤◌, ◌<◌, List, ◌++◌, Option, Some, None, IfSome, length, take}
+use Rattle.std.specs.Prelude.{◌≡◌, ◌≢◌, ℕ, ◌-◌, ◌≤◌, ◌<◌, ◌⊎◌, List, ◌++◌, Option, Some, None, IfSome, length, take}
 use Rattle.peg_text.specs.Records.{cut_of, records_of}
+use Rattle.dir_disk.specs.Causes.{Rose}
 use Rattle.dir_disk.specs.Streams.{AddsPart, AtEnd, added, onto}
 use Rattle.gimv_base.specs.Rules.{Rule, role_out, complete}
-use Rattle.child.specs.Judging.{most_bytes, judged_records, IsBadAmong}
+use Rattle.child.specs.Judging.{most_bytes, judged_records, AreTooMany, IsBadAmong}
+use Rattle.child.specs.declared.status.ChildStatus.{ChildStatus}
+use Rattle.child.specs.declared.status.ChildStatus.TheVariants as Status
 
 -- no record of the bytes is bad, they are not too many, and all that they give was written
 pub record WritesAll (rule : Rule) (bytes : List ℕ) (before now : Option (List ℕ)) : Type 0 where
@@ -39,3 +42,27 @@ pub record IsStreamed (rule : Rule) (left left' before now : Option (List ℕ)) 
   pub read : left ≡ onto bytes left'
   pub more : List ℕ
   pub is : now ≡ added before (answer_to rule (take (length bytes - piece_length) bytes) ++ more)
+
+-- what is seen of a source and a sink: what is left to read, what was written, and how often each has failed
+pub record Streams : Type 0 where
+  pub left : Option (List ℕ)
+  pub written : Option (List ℕ)
+  pub read_faults : ℕ
+  pub write_faults : ℕ
+
+abbrev pub streams : Option (List ℕ) → Option (List ℕ) → ℕ → ℕ → Streams
+streams left written read_faults write_faults =
+    record { left = left; written = written; read_faults = read_faults; write_faults = write_faults }
+
+-- what a child of this role answers, and what it has read and written then
+pub record Runs (rule : Rule) (status : ChildStatus) (old new : Streams) : Type 0 where
+  pub done : status ≡ Status.Ok → IsDone rule old.left new.left old.written new.written
+  pub bad : (line : ℕ) → status ≡ Status.BadLine line → IfSome old.left (λ bytes. IsFirstBad rule bytes line)
+  pub too_large : status ≡ Status.TooLarge → IfSome old.left (AreTooMany rule)
+  pub fault : status ≡ Status.Fault → Rose old.read_faults new.read_faults ⊎ Rose old.write_faults new.write_faults
+  pub known : status ≢ Status.Usage
+  pub part : WritesPart rule old.left old.written new.written
+  pub stream : IsStreamed rule old.left new.left old.written new.written
+  pub later : (old.read_faults ≤ new.read_faults) × (old.write_faults ≤ new.write_faults)
+  pub steady_source : status ≢ Status.Fault → new.read_faults ≡ old.read_faults
+  pub steady_sink : status ≢ Status.Fault → new.write_faults ≡ old.write_faults

@@ -1,7 +1,7 @@
 ghost use Rattle.std.specs.Prelude.{◌≡◌, ◌≢◌, ◌↔◌, ◌≤◌, ◌⊎◌, ℕ, None, IfSome, map};
 ghost use Rattle.std.specs.String.{string_bytes};
 ghost use Rattle.dir_disk.specs.Causes.{Rose};
-ghost use Rattle.child.specs.Child.{IsDone, IsFirstBad, IsStreamed, WritesPart};
+ghost use Rattle.child.specs.Child.{IsDone, IsFirstBad, IsStreamed, Runs, WritesPart, streams};
 ghost use Rattle.child.specs.Judging.{AreTooMany};
 ghost use Rattle.child.specs.Words.{HasNodes, rule_of, rule_of_kind, rule_of_node_role, rule_over_nodes};
 
@@ -66,16 +66,7 @@ fn run_kind<I: Source, O: Sink>(
     sink: &mut O,
 ) -> ChildStatus
     requires { HasNodes kind }
-    ensures done { result ≡ ChildStatus.Ok → IsDone (rule_of_kind kind) (I.left source.old) (I.left source.new) (O.written sink.old) (O.written sink.new) }
-    ensures bad { (line : ℕ) → result ≡ ChildStatus.BadLine line → IfSome (I.left source.old) (λ bytes. IsFirstBad (rule_of_kind kind) bytes line) }
-    ensures too_large { result ≡ ChildStatus.TooLarge → IfSome (I.left source.old) (AreTooMany (rule_of_kind kind)) }
-    ensures fault { result ≡ ChildStatus.Fault → Rose (I.faults source.old) (I.faults source.new) ⊎ Rose (O.faults sink.old) (O.faults sink.new) }
-    ensures known { result ≢ ChildStatus.Usage }
-    ensures part { WritesPart (rule_of_kind kind) (I.left source.old) (O.written sink.old) (O.written sink.new) }
-    ensures stream { IsStreamed (rule_of_kind kind) (I.left source.old) (I.left source.new) (O.written sink.old) (O.written sink.new) }
-    ensures later { (I.faults source.old ≤ I.faults source.new) × (O.faults sink.old ≤ O.faults sink.new) }
-    ensures steady_source { result ≢ ChildStatus.Fault → I.faults source.new ≡ I.faults source.old }
-    ensures steady_sink { result ≢ ChildStatus.Fault → O.faults sink.new ≡ O.faults sink.old }
+    ensures { Runs (rule_of_kind kind) result (streams (I.left source.old) (O.written sink.old) (I.faults source.old) (O.faults sink.old)) (streams (I.left source.new) (O.written sink.new) (I.faults source.new) (O.faults sink.new)) }
 {
     match kind {
         Kind::Id => run_role(alloc, IdRole::new(), source, sink),
@@ -100,16 +91,7 @@ fn run_over_nodes<I: Source, O: Sink>(
     sink: &mut O,
 ) -> ChildStatus
     requires { 1 ≤ nodes }
-    ensures done { result ≡ ChildStatus.Ok → IsDone (rule_over_nodes role algorithm nodes) (I.left source.old) (I.left source.new) (O.written sink.old) (O.written sink.new) }
-    ensures bad { (line : ℕ) → result ≡ ChildStatus.BadLine line → IfSome (I.left source.old) (λ bytes. IsFirstBad (rule_over_nodes role algorithm nodes) bytes line) }
-    ensures too_large { result ≡ ChildStatus.TooLarge → IfSome (I.left source.old) (AreTooMany (rule_over_nodes role algorithm nodes)) }
-    ensures fault { result ≡ ChildStatus.Fault → Rose (I.faults source.old) (I.faults source.new) ⊎ Rose (O.faults sink.old) (O.faults sink.new) }
-    ensures known { result ≢ ChildStatus.Usage }
-    ensures part { WritesPart (rule_over_nodes role algorithm nodes) (I.left source.old) (O.written sink.old) (O.written sink.new) }
-    ensures stream { IsStreamed (rule_over_nodes role algorithm nodes) (I.left source.old) (I.left source.new) (O.written sink.old) (O.written sink.new) }
-    ensures later { (I.faults source.old ≤ I.faults source.new) × (O.faults sink.old ≤ O.faults sink.new) }
-    ensures steady_source { result ≢ ChildStatus.Fault → I.faults source.new ≡ I.faults source.old }
-    ensures steady_sink { result ≢ ChildStatus.Fault → O.faults sink.new ≡ O.faults sink.old }
+    ensures { Runs (rule_over_nodes role algorithm nodes) result (streams (I.left source.old) (O.written sink.old) (I.faults source.old) (O.faults sink.old)) (streams (I.left source.new) (O.written sink.new) (I.faults source.new) (O.faults sink.new)) }
 {
     match algorithm {
         Algorithm::Hcc => run_node_role(alloc, role, Hcc::new(), nodes, source, sink),
@@ -131,16 +113,7 @@ fn run_node_role<G: Gimv + Drop, I: Source, O: Sink>(
     source: &mut I,
     sink: &mut O,
 ) -> ChildStatus
-    ensures done { result ≡ ChildStatus.Ok → IsDone (rule_of_node_role role (G.algebra algorithm) nodes) (I.left source.old) (I.left source.new) (O.written sink.old) (O.written sink.new) }
-    ensures bad { (line : ℕ) → result ≡ ChildStatus.BadLine line → IfSome (I.left source.old) (λ bytes. IsFirstBad (rule_of_node_role role (G.algebra algorithm) nodes) bytes line) }
-    ensures too_large { result ≡ ChildStatus.TooLarge → IfSome (I.left source.old) (AreTooMany (rule_of_node_role role (G.algebra algorithm) nodes)) }
-    ensures fault { result ≡ ChildStatus.Fault → Rose (I.faults source.old) (I.faults source.new) ⊎ Rose (O.faults sink.old) (O.faults sink.new) }
-    ensures known { result ≢ ChildStatus.Usage }
-    ensures part { WritesPart (rule_of_node_role role (G.algebra algorithm) nodes) (I.left source.old) (O.written sink.old) (O.written sink.new) }
-    ensures stream { IsStreamed (rule_of_node_role role (G.algebra algorithm) nodes) (I.left source.old) (I.left source.new) (O.written sink.old) (O.written sink.new) }
-    ensures later { (I.faults source.old ≤ I.faults source.new) × (O.faults sink.old ≤ O.faults sink.new) }
-    ensures steady_source { result ≢ ChildStatus.Fault → I.faults source.new ≡ I.faults source.old }
-    ensures steady_sink { result ≢ ChildStatus.Fault → O.faults sink.new ≡ O.faults sink.old }
+    ensures { Runs (rule_of_node_role role (G.algebra algorithm) nodes) result (streams (I.left source.old) (O.written sink.old) (I.faults source.old) (O.faults sink.old)) (streams (I.left source.new) (O.written sink.new) (I.faults source.new) (O.faults sink.new)) }
 {
     match role {
         NodeRole::First => run_role(alloc, FirstRole::new(algorithm, nodes), source, sink),

@@ -1,7 +1,7 @@
 ghost use Rattle.std.specs.Prelude.{◌≡◌, ◌≢◌, ◌≤◌, ◌⊎◌, ℕ, IfSome};
 ghost use Rattle.dir_disk.specs.Causes.{Rose};
 ghost use Rattle.gimv_base.specs.Standings.{fresh};
-ghost use Rattle.child.specs.Child.{IsDone, IsFirstBad, IsStreamed, WritesPart};
+ghost use Rattle.child.specs.Child.{IsDone, IsFirstBad, IsStreamed, Runs, WritesPart, streams};
 ghost use Rattle.child.specs.Judging.{AreTooMany};
 
 use crate::feeding::Feeding;
@@ -13,8 +13,21 @@ use std::alloc::Global;
 /// How many bytes are read at once, at most.
 const PIECE: u32 = 65_536;
 
-/// Reads the source piece by piece, and writes what the role gives for each piece before it reads the next.
+/// Runs a role over all that the source has left.
 pub fn run_role<R: Role + Drop, I: Source, O: Sink>(
+    alloc: Global,
+    role: R,
+    source: &mut I,
+    sink: &mut O,
+) -> ChildStatus
+    requires { R.standing role ≡ fresh (R.standing role).rule }
+    ensures { Runs (R.standing role).rule result (streams (I.left source.old) (O.written sink.old) (I.faults source.old) (O.faults sink.old)) (streams (I.left source.new) (O.written sink.new) (I.faults source.new) (O.faults sink.new)) }
+{
+    run_pieces(alloc, role, source, sink)
+}
+
+/// Reads the source piece by piece, and writes what the role gives for each piece before it reads the next.
+fn run_pieces<R: Role + Drop, I: Source, O: Sink>(
     alloc: Global,
     role: R,
     source: &mut I,

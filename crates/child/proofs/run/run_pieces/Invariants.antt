@@ -2,7 +2,7 @@ use Rattle.std.proofs.Common.{◌≡◌, ◌-◌}
 use Rattle.child.specs.Judging.{most_bytes}
 use Rattle.child.specs.Feeding.{IsCounted, fed_of}
 use Rattle.child.proofs.RunLemmas.{HasRun}
-use Rattle.child.proofs.run.run_role.Given as goal
+use Rattle.child.proofs.run.run_pieces.Given as goal
 
 abbrev pub invariant-pieces : goal.invariant-pieces
 invariant-pieces g l = record {
