@@ -21,7 +21,7 @@ use Rattle.job.specs.declared.spec.JobReport.{JobReport}
 use Rattle.peg_base.specs.Tasks.{same_phase}
 use Rattle.job.specs.Failing.{IsEntryOf, done_of, failed_of, is_done_of, is_failed_of, is_made, is_of, made_in, steps_of}
 use Rattle.job.specs.Going.{commits_of, givens_of}
-use Rattle.job.specs.Logged.{AreReduced, HasFewFailures, IfTaskFailed, IsCauseOf, IsCutShort, IsLeftBy, JobAnswers, JobLog, MapLog, NamesNoTask, PhaseLog, TellsOfJob, of_phase}
+use Rattle.job.specs.Logged.{AreReduced, HasFewFailures, IfGivenUp, IfTaskFailed, IsCauseOf, IsCutShort, IsDone, IsLeftBy, JobAnswers, JobLog, MapLog, NamesNoTask, PhaseLog, StopsIn, StopsJob, TellsOfJob, of_phase}
 use Rattle.job.specs.Output.{Plan, map_inputs, reduce_inputs}
 use Rattle.job.specs.Ran.{StopsEarly, TellsOf}
 use Rattle.job.specs.Work.{Work, task_id, work_of}
@@ -180,6 +180,7 @@ phase_log_texts tells w slots texts others old new had has e result same phase =
       began = phase.began;
       givens = λ tell. phase.givens tell ∙ ap (λ (all : List (List ℕ)). had ++ givens_of w (λ t. get_or all t []) phase.began (fresh w.count slots) (steps_of phase.entries)) (same tell);
       calls = phase.calls;
+      stopped = phase.stopped;
       start_faults = phase.start_faults;
       answer = phase.answer;
       told = phase.told;
@@ -204,8 +205,28 @@ calls_of_reduce w m entries (TaskFailed id) calls by_map by_reduce is_reduce doo
 calls_of_reduce w m entries Disk calls by_map by_reduce is_reduce given_up are = tt
 calls_of_reduce w m entries NoMemory calls by_map by_reduce is_reduce given_up are = tt
 
-pub job_log : (tells : Type 0) (gives : List (List ℕ) → List ℕ → List ℕ) (folder : Names) (plan : Plan) (slots count : ℕ) (a b c h : Seen) (had has have given : List Given) (mid late last : Told) (m r : Result ℕ JobFault) (result : Result JobReport JobFault) → (tells → count ≡ length (map_inputs plan)) → (maps : PhaseLog tells (work_of folder Map plan.map_words count) slots (map_inputs plan) a b had has mid m) → (reduces : PhaseLog tells (work_of folder Reduce plan.reduce_words plan.reducers) slots (reduce_inputs gives plan) b c has have late r) → h ≡ c → (tells → given ≡ have) → JobAnswers (work_of folder Map plan.map_words count) (work_of folder Reduce plan.reduce_words plan.reducers) slots maps.entries reduces.entries result → (tells → IfTaskFailed result (λ id. clock last ≡ of_phase id.phase (maps.began + commits_of (fresh count slots) (steps_of maps.entries)) (reduces.began + commits_of (fresh plan.reducers slots) (steps_of reduces.entries)))) → JobLog tells gives folder plan slots a h had given last result
-job_log tells gives folder plan slots count a b c h had has have given mid late last m r result counted maps reduces same same_given answer calls =
+-- it was given up in its map stage, in its reduce stage, or at its commit
+stops_in_maps : (m n : Machine) (maps : List LogEntry) (map_began reduce_began calls : ℕ) (fault : JobFault) → (let result : Result ℕ JobFault = Err fault in IfGivenUp result (λ exact. StopsIn exact m maps map_began calls)) → (let result : Result JobReport JobFault = Err fault in IfGivenUp result (λ exact. StopsJob exact m n maps [] map_began reduce_began calls))
+stops_in_maps m n maps map_began reduce_began calls (TaskFailed id) stops = tt
+stops_in_maps m n maps map_began reduce_began calls Disk stops = inl (refl, stops)
+stops_in_maps m n maps map_began reduce_began calls NoMemory stops = inl (refl, stops)
+
+pub stops_in_reduces : (m n : Machine) (maps reduces : List LogEntry) (map_began reduce_began calls : ℕ) (fault : JobFault) → IsDone m maps → (let result : Result ℕ JobFault = Err fault in IfGivenUp result (λ exact. StopsIn exact n reduces reduce_began calls)) → (let result : Result JobReport JobFault = Err fault in IfGivenUp result (λ exact. StopsJob exact m n maps reduces map_began reduce_began calls))
+stops_in_reduces m n maps reduces map_began reduce_began calls (TaskFailed id) done stops = tt
+stops_in_reduces m n maps reduces map_began reduce_began calls Disk done stops =
+    inr (inl (done, stops))
+stops_in_reduces m n maps reduces map_began reduce_began calls NoMemory done stops =
+    inr (inl (done, stops))
+
+pub stops_at_commit : (m n : Machine) (maps reduces : List LogEntry) (map_began reduce_began calls : ℕ) (fault : JobFault) → IsDone m maps → IsDone n reduces → (let result : Result JobReport JobFault = Err fault in IfGivenUp result (λ exact. StopsJob exact m n maps reduces map_began reduce_began calls))
+stops_at_commit m n maps reduces map_began reduce_began calls (TaskFailed id) done all = tt
+stops_at_commit m n maps reduces map_began reduce_began calls Disk done all =
+    inr (inr (done, all))
+stops_at_commit m n maps reduces map_began reduce_began calls NoMemory done all =
+    inr (inr (done, all))
+
+pub job_log : (tells : Type 0) (gives : List (List ℕ) → List ℕ → List ℕ) (folder : Names) (plan : Plan) (slots count : ℕ) (a b c h : Seen) (had has have given : List Given) (mid late last : Told) (m r : Result ℕ JobFault) (result : Result JobReport JobFault) → (tells → count ≡ length (map_inputs plan)) → (maps : PhaseLog tells (work_of folder Map plan.map_words count) slots (map_inputs plan) a b had has mid m) → (reduces : PhaseLog tells (work_of folder Reduce plan.reduce_words plan.reducers) slots (reduce_inputs gives plan) b c has have late r) → h ≡ c → (tells → given ≡ have) → JobAnswers (work_of folder Map plan.map_words count) (work_of folder Reduce plan.reduce_words plan.reducers) slots maps.entries reduces.entries result → (tells → IfTaskFailed result (λ id. clock last ≡ of_phase id.phase (maps.began + commits_of (fresh count slots) (steps_of maps.entries)) (reduces.began + commits_of (fresh plan.reducers slots) (steps_of reduces.entries)))) → (tells → IfGivenUp result (λ exact. StopsJob exact (fresh count slots) (fresh plan.reducers slots) maps.entries reduces.entries maps.began reduces.began (clock last))) → JobLog tells gives folder plan slots a h had given last result
+job_log tells gives folder plan slots count a b c h had has have given mid late last m r result counted maps reduces same same_given answer calls stopped =
     let v = work_of folder Map plan.map_words count in
     let w = work_of folder Reduce plan.reduce_words plan.reducers in
     let first = givens_of v (λ t. get_or (map_inputs plan) t []) maps.began (fresh count slots) (steps_of maps.entries) in
@@ -224,6 +245,7 @@ job_log tells gives folder plan slots count a b c h had has have given mid late 
       reduce_began = reduces.began;
       givens = λ tell. same_given tell ∙ reduces.givens tell ∙ ap (λ (gs : List Given). gs ++ second) (maps.givens tell) ∙ append_assoc had first second;
       calls = calls;
+      stopped = stopped;
       start_faults = let e : h.start_faults ≡ c.start_faults = ap (λ (s : Seen). s.start_faults) same in omega (arith, e, maps.start_faults, reduces.start_faults);
       answer = answer;
     }
@@ -249,6 +271,7 @@ job_log_maps tells gives folder plan slots a b had has last fault log =
       reduce_began = 0;
       givens = λ tell. maps.givens tell ∙ ap (λ (gs : List Given). had ++ gs) (sym (append-nil first));
       calls = λ tell. calls_of_map v machine maps.entries fault (clock last) (maps.began + commits_of machine (steps_of maps.entries)) (0 + commits_of (fresh plan.reducers slots) []) refl maps.answer (maps.calls tell);
+      stopped = λ tell. stops_in_maps machine (fresh plan.reducers slots) maps.entries maps.began 0 (clock last) fault (maps.stopped tell);
       start_faults = maps.start_faults;
       answer = inl (maps.answer, refl);
     }

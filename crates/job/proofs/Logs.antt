@@ -1,10 +1,10 @@
 -- The log of a job's phases.
-use Rattle.std.proofs.Common.{◌≡◌, ℕ, ◌+◌, ◌*◌, ◌<◌, ◌≤◌, List, [], ◌∷◌, ◌++◌, length, get_or, drop, replicate, cond, Result, Ok, Err, ⊎_elim, refl, sym, ◌∙◌, ap, subst, arith}
+use Rattle.std.proofs.Common.{◌≡◌, ℕ, ◌+◌, ◌*◌, ◌<◌, ◌≤◌, List, [], ◌∷◌, ◌++◌, length, get_or, drop, replicate, cond, Result, Ok, Err, inl, inr, ⊎_elim, refl, sym, ◌∙◌, ap, subst, arith}
 use Rattle.std.specs.Prelude.{IsErrOf}
 use Rattle.std.specs.List.{All}
 use Rattle.std.specs.Result.{IsErrAnd}
 use Rattle.std.proofs.Math.Seq.{drop-append_seam}
-use Rattle.std.proofs.lemmas.Bool.{cases_lt}
+use Rattle.std.proofs.lemmas.Bool.{cases_lt, false≢true}
 use Rattle.std.proofs.lemmas.List.{append-nil, get_or-replicate, get_or_past, length-replicate, map-append}
 use Rattle.std.proofs.lemmas.List.Elements.{All-tail}
 use Rattle.std.proofs.lemmas.List.Sums.{sum_by-cons}
@@ -32,7 +32,7 @@ use Rattle.job.specs.declared.fault.JobFault.{JobFault}
 use Rattle.job.specs.declared.fault.JobFault.TheVariants.{TaskFailed, Disk, NoMemory}
 use Rattle.job.specs.Failing.{gained, is_made, made_in, step_of, steps_of}
 use Rattle.job.specs.Going.{AreAsMany, commits_of, givens_of}
-use Rattle.job.specs.Logged.{IsGivenUp, IsDone, IsDoomed, IfTaskFailed, NamesNoTask, PhaseAnswers, PhaseLog, MapLog, reduced_attempts}
+use Rattle.job.specs.Logged.{IsGivenUp, IsDone, IsDoomed, IfGivenUp, IfTaskFailed, NamesNoTask, PhaseAnswers, PhaseLog, MapLog, StopsIn, reduced_attempts}
 use Rattle.job.specs.Ran.{Answers, Ran, TellsOf}
 use Rattle.job.proofs.Goings.{givens-append}
 use Rattle.job.specs.Faults.{job_fault}
@@ -68,6 +68,11 @@ no_task_failed T (TaskFailed id) P never = absurd never
 no_task_failed T Disk P is = tt
 no_task_failed T NoMemory P is = tt
 
+stops_at_once : (m : Machine) (began calls : ℕ) (fault : JobFault) → (let result : Result ℕ JobFault = Err fault in IfGivenUp result (λ exact. StopsIn exact m [] began calls))
+stops_at_once m began calls (TaskFailed id) = tt
+stops_at_once m began calls Disk = inl refl
+stops_at_once m began calls NoMemory = inl refl
+
 pub log_none : (tells : Type 0) (w : Work) (slots : ℕ) (texts : List (List ℕ)) (old new : Seen) (had has : List Given) (e : Told) (fault : JobFault) → new ≡ old → (tells → has ≡ had) → NamesNoTask fault → PhaseLog tells w slots texts old new had has e (Err fault)
 log_none tells w slots texts old new had has e fault same given is =
     record {
@@ -78,6 +83,7 @@ log_none tells w slots texts old new had has e fault same given is =
       began = 0;
       givens = λ told. given told ∙ sym (append-nil had);
       calls = λ _. no_task_failed ℕ fault (λ id. clock e ≡ 0 + commits_of (fresh w.count slots) []) is;
+      stopped = λ _. stops_at_once (fresh w.count slots) 0 (clock e) fault;
       start_faults = let e : new.start_faults ≡ old.start_faults = ap (λ (s : Seen). s.start_faults) same in omega (arith, e);
       answer = not_begun w slots fault is;
       told = told_nothing w fault is;
@@ -125,6 +131,18 @@ calls_told w m k front ends d e (Err (TaskFailed id)) (named, least, nothing) ca
 calls_told w m k front ends d e (Err Disk) answer calls = tt
 calls_told w m k front ends d e (Err NoMemory) answer calls = tt
 
+-- a phase that was given up made one call for each commit before that
+stops_told : (w : Work) (m : Machine) (front ends : List LogEntry) (d e : Told) (result : Result ℕ JobFault) → IsBusyRun m (steps_of front) → made_in ends ≡ 0 → Answers w (after_all m (steps_of front)) front ends result → AreAsMany (IsErrOf result NoMemory → ⊥) (clock e) (clock d + commits_of m (steps_of front)) → IfGivenUp result (λ exact. StopsIn exact m (front ++ ends) (clock d) (clock e))
+stops_told w m front ends d e (Ok made) busy none answer calls = tt
+stops_told w m front ends d e (Err (TaskFailed id)) busy none answer calls = tt
+stops_told w m front ends d e (Err Disk) busy none alive calls =
+    let given_up : IsGivenUp m (front ++ ends) = record { front = front; ends = ends; parts = refl; busy = busy; none_dead = alive; none_made = none } in
+    let exact : clock e ≡ clock d + commits_of m (steps_of front) = calls.exact (λ memory. cc) in
+    inr (record { given_up = given_up; spent = record { most = calls.most; exact = λ _. exact } })
+stops_told w m front ends d e (Err NoMemory) busy none alive calls =
+    let given_up : IsGivenUp m (front ++ ends) = record { front = front; ends = ends; parts = refl; busy = busy; none_dead = alive; none_made = none } in
+    inr (record { given_up = given_up; spent = record { most = calls.most; exact = λ is. absurd (false≢true is) } })
+
 pub made_is : (entries : List LogEntry) → made_in entries ≡ attempts_in (steps_of entries)
 made_is [] = refl
 made_is (x ∷ entries) =
@@ -167,6 +185,7 @@ log_ran tells w slots inputs texts a b c had has have d e result same given text
       began = clock d;
       givens = λ tell. ran.givens tell ∙ ap (λ (gs : List Given). gs ++ givens_of w inputs (clock d) (fresh w.count slots) (steps_of ran.front)) (given tell) ∙ ap (λ (gs : List Given). had ++ gs) (all_given w inputs (clock d) (fresh w.count slots) ran.front ran.ends ran.none_made ∙ givens_within w inputs (λ t. get_or texts t []) w.count (clock d) (fresh w.count slots) (steps_of entries) named (texts_are tell));
       calls = λ tell. calls_told w (fresh w.count slots) (after_all (fresh w.count slots) (steps_of ran.front)) ran.front ran.ends d e result ran.answer (ran.calls tell);
+      stopped = λ tell. stops_told w (fresh w.count slots) ran.front ran.ends d e result ran.busy ran.none_made ran.answer (ran.calls tell);
       start_faults = let e : b.start_faults ≡ a.start_faults = ap (λ (s : Seen). s.start_faults) same in omega (arith, e, ran.start_faults);
       answer = answered w (fresh w.count slots) ran.front ran.ends result ran.busy ran.none_made ran.answer;
       told = subst (λ (xs : List LogEntry). TellsOf w.folder w.phase w.count xs result) (gained_is b c entries ran.log) told;

@@ -1,5 +1,5 @@
 -- What the log gains by a job, and what the children are given.
-use Rattle.std.specs.Prelude.{◌≡◌, ℕ, ◌+◌, ◌<◌, ◌≤◌, ◌⊎◌, List, [], ◌++◌, length, Result, Ok, Err, IfOk, slice_index_or}
+use Rattle.std.specs.Prelude.{◌≡◌, ℕ, Bool, true, false, ◌+◌, ◌<◌, ◌≤◌, ◌⊎◌, List, [], ◌++◌, length, Result, Ok, Err, IfOk, slice_index_or}
 use Rattle.std.specs.List.{AllByRecursion}
 use Rattle.peg_base.specs.Names.{Names}
 use Rattle.peg_base.specs.declared.tasks.Phase.{Phase}
@@ -19,7 +19,7 @@ use Rattle.job.specs.declared.run.Reduced.{Reduced}
 use Rattle.job.specs.Work.{Work, task_id, work_of}
 use Rattle.job.specs.Failing.{IsEntryOf, steps_of, made_in, failed_of, done_of}
 use Rattle.job.specs.Ran.{TellsOf}
-use Rattle.job.specs.Going.{commits_of, givens_of}
+use Rattle.job.specs.Going.{AreAsMany, commits_of, givens_of}
 use Rattle.job.specs.Output.{Plan, map_inputs, reduce_inputs}
 
 -- ---- one phase
@@ -62,7 +62,23 @@ IfTaskFailed (Err (TaskFailed id)) P = P id
 IfTaskFailed (Err Disk) P = Unit {0}
 IfTaskFailed (Err NoMemory) P = Unit {0}
 
--- what the log gained by a phase, and what its children were given; `began` calls of the directory were made before it, which its first start tells, and where a task is dead one for each commit since then
+-- what holds where a fault of the directory was answered, and where want of memory was
+abbrev pub IfGivenUp : {T : Type 0} → Result T JobFault → (Bool → Type 0) → Type 0
+IfGivenUp (Ok value) P = Unit {0}
+IfGivenUp (Err (TaskFailed id)) P = Unit {0}
+IfGivenUp (Err Disk) P = P true
+IfGivenUp (Err NoMemory) P = P false
+
+-- a run that was given up while no task was dead, and since `began` made as many calls of the directory as its front has commits, or fewer where the number isn't exact
+pub record StopsAfter (exact : Bool) (m : Machine) (entries : List LogEntry) (began calls : ℕ) : Type 0 where
+  pub given_up : IsGivenUp m entries
+  pub spent : AreAsMany (exact ≡ true) calls (began + commits_of m (steps_of given_up.front))
+
+-- the phase wasn't begun, or it was given up so
+abbrev pub StopsIn : Bool → Machine → List LogEntry → ℕ → ℕ → Type 0
+StopsIn exact m entries began calls = (entries ≡ []) ⊎ StopsAfter exact m entries began calls
+
+-- what the log gained by a phase, and what its children were given; `began` calls of the directory were made before it, which its first start tells; where a task is dead, or the phase was given up, one for each commit since then
 pub record PhaseLog (tells : Type 0) (w : Work) (slots : ℕ) (texts : List (List ℕ)) (old new : Seen) (had has : List Given) (e : Told) (result : Result ℕ JobFault) : Type 0 where
   pub entries : List LogEntry
   pub log : new.log ≡ old.log ++ entries
@@ -71,6 +87,7 @@ pub record PhaseLog (tells : Type 0) (w : Work) (slots : ℕ) (texts : List (Lis
   pub began : ℕ
   pub givens : tells → has ≡ had ++ givens_of w (λ t. slice_index_or texts t []) began (fresh w.count slots) (steps_of entries)
   pub calls : tells → IfTaskFailed result (λ id. clock e ≡ began + commits_of (fresh w.count slots) (steps_of entries))
+  pub stopped : tells → IfGivenUp result (λ exact. StopsIn exact (fresh w.count slots) entries began (clock e))
   pub start_faults : old.start_faults ≤ new.start_faults
   pub answer : PhaseAnswers w (fresh w.count slots) entries result
   pub told : TellsOf w.folder w.phase w.count entries result
@@ -116,7 +133,14 @@ abbrev pub of_phase : Phase → ℕ → ℕ → ℕ
 of_phase Map map reduce = map
 of_phase Reduce map reduce = reduce
 
--- the log gained a run of the machine for the map tasks, and then, where all of them were done, one for the reduce tasks; each child was given its phase's words and its task's text. Where a task is dead, no call of the directory was made since its phase began but one for each commit; when that was is told by the moment of the phase's first start, and there is one, since four attempts of the task failed
+-- a job was given up before its reduce tasks were run: before its map tasks were, or in their run; or when these were done, before the reduce tasks were run or in their run; or when all tasks were done. Where it was in the run of a phase, the calls of the directory since the phase began are the commits before that
+abbrev pub StopsJob : Bool → Machine → Machine → List LogEntry → List LogEntry → ℕ → ℕ → ℕ → Type 0
+StopsJob exact m n maps reduces map_began reduce_began calls =
+    ((reduces ≡ []) × StopsIn exact m maps map_began calls)
+    ⊎ (IsDone m maps × StopsIn exact n reduces reduce_began calls)
+    ⊎ (IsDone m maps × IsDone n reduces)
+
+-- the log gained a run of the machine for the map tasks, and then, where all of them were done, one for the reduce tasks; each child was given its phase's words and its task's text. Where a task is dead, no call of the directory was made since its phase began but one for each commit; when that was is told by the moment of the phase's first start, and there is one, since four attempts of the task failed. Where a phase that has entries was given up, the same holds of the commits before that
 pub record JobLog (tells : Type 0) (gives : List (List ℕ) → List ℕ → List ℕ) (folder : Names) (plan : Plan) (slots : ℕ) (old new : Seen) (had has : List Given) (e : Told) (result : Result JobReport JobFault) : Type 0 where
   pub count : ℕ
   pub counted : tells → count ≡ length (map_inputs plan)
@@ -131,6 +155,7 @@ pub record JobLog (tells : Type 0) (gives : List (List ℕ) → List ℕ → Lis
   pub reduce_began : ℕ
   pub givens : tells → has ≡ had ++ (givens_of (work_of folder Map plan.map_words count) (λ t. slice_index_or (map_inputs plan) t []) map_began (fresh count slots) (steps_of maps) ++ givens_of (work_of folder Reduce plan.reduce_words plan.reducers) (λ t. slice_index_or (reduce_inputs gives plan) t []) reduce_began (fresh plan.reducers slots) (steps_of reduces))
   pub calls : tells → IfTaskFailed result (λ id. clock e ≡ of_phase id.phase (map_began + commits_of (fresh count slots) (steps_of maps)) (reduce_began + commits_of (fresh plan.reducers slots) (steps_of reduces)))
+  pub stopped : tells → IfGivenUp result (λ exact. StopsJob exact (fresh count slots) (fresh plan.reducers slots) maps reduces map_began reduce_began (clock e))
   pub start_faults : old.start_faults ≤ new.start_faults
   pub answer : JobAnswers (work_of folder Map plan.map_words count) (work_of folder Reduce plan.reduce_words plan.reducers) slots maps reduces result
 
