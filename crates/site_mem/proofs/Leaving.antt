@@ -1,17 +1,17 @@
 -- Loans that begin and end with their children.
 use Rattle.std.proofs.Common.{◌≡◌, ℕ, ◌<◌, ◌+◌, zero, suc, Bool, true, false, ◌||◌, cond, ⊎_elim, List, [], ◌∷◌, ◌++◌, length, take, drop, Some, refl, sym, ◌∙◌, ap, subst, arith}
 use Rattle.std.specs.Prelude.{ℤ, pos, All, slice_index_or}
-use Rattle.std.proofs.lemmas.Bool.{false≢true, cases_Bool, or_cases, and_from}
-use Rattle.std.proofs.lemmas.List.Elements.{All-nil, All-cons, All-head, All-tail, All-push, All-same}
+use Rattle.std.proofs.lemmas.Bool.{false≢true, cases_Bool, and_from}
+use Rattle.std.proofs.lemmas.List.Elements.{All-nil, All-cons, All-head, All-tail, All-push}
 use Rattle.peg_base.specs.Names.{Names, same_path, under}
 use Rattle.peg_base.proofs.Under.{same_path-true, same_path-refl, under-same}
-use Rattle.dir_disk.specs.State.{Content, Held, State}
+use Rattle.dir_disk.specs.State.{Held, State}
 use Rattle.dir_disk.specs.Moments.{Told, AddsBy, files}
 use Rattle.dir_disk.specs.Lent.{Loan, IsFree, IsNoOutput}
-use Rattle.dir_disk.specs.Children.{Child, Leaves, OnlyAt, loan_of, loans_of}
+use Rattle.dir_disk.specs.Children.{Child, Leaves, loan_of, loans_of}
 use Rattle.dir_disk.proofs.Lendings.{loans_end}
 use Rattle.dir_mem.specs.Lending.{IsLent, TakesOff, after_loan, is_loan, left_with}
-use Rattle.site_mem.specs.Ends.{WriteApart, is_zero}
+use Rattle.site_mem.specs.Ends.{WriteApart}
 
 -- ---- children that write apart
 

@@ -1,6 +1,7 @@
 -- What a site in memory is.
-use Rattle.std.specs.Prelude.{List, []}
+use Rattle.std.specs.Prelude.{ℕ, List, []}
 use Rattle.dir_disk.specs.Children.{Given, Seen}
+use Rattle.dir_mem.specs.Memory.{fail_of}
 use Rattle.dir_mem.specs.declared.mem_dir.MemDir.{MemDir}
 use Rattle.site_mem.specs.Voices.{Voiced}
 use Rattle.site_mem.specs.Plans.{Planned, unplanned}
@@ -12,6 +13,10 @@ pub record Memory : Type 0 where
   pub given : List Given
   pub voice : Voiced
   pub plan : Planned
+
+-- what the calls of its directory leave as it is
+abbrev pub beside_dir : Memory → Seen × List Given × Voiced × Planned × List ℕ
+beside_dir site = (site.seen, site.given, site.voice, site.plan, fail_of site.dir)
 
 -- nothing was started or said yet
 abbrev pub fresh : MemDir → Memory

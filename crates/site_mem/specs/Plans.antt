@@ -1,5 +1,5 @@
 -- What the children of a site in memory are told to do.
-use Rattle.std.specs.Prelude.{◌≡◌, ℕ, ℤ, pos, ◌+◌, ◌⊎◌, ◌&&◌, ◌==◌, Bool, true, false, not, nat_eq, List, [], length, Option, Some, None, find, Result, Ok, Err, if◌then◌else◌}
+use Rattle.std.specs.Prelude.{◌≡◌, ℕ, ℤ, pos, ◌+◌, ◌⊎◌, ◌&&◌, Bool, true, false, not, nat_eq, List, [], length, Option, Some, None, find, Result, Ok, Err, if◌then◌else◌}
 use Rattle.std.specs.List.{AllWithin, HoldsAt, list_any}
 use Rattle.peg_base.specs.Names.{same_path}
 use Rattle.peg_base.specs.Tasks.{same_phase}

@@ -1,6 +1,6 @@
-ghost use Rattle.std.specs.Prelude.{◌≡◌, ◌≢◌, ◌<◌, ◌≤◌, ◌+◌, ◌^◌, [], ◌∷◌, ◌++◌, Some, true, false, IfOk, length, take, drop, if◌then◌else◌};
+ghost use Rattle.std.specs.Prelude.{◌≡◌, ◌≢◌, ◌<◌, ◌≤◌, ◌+◌, ◌^◌, [], ◌∷◌, ◌++◌, Some, true, false, IfOk, IsErrOf, length, take, drop, if◌then◌else◌};
 ghost use Rattle.std.specs.Vec.{vec_len, vec_capacity};
-ghost use Rattle.dir_disk.specs.Children.{Begins, CanStart, Child, Ends, Given as Gives, Hands, Leaves, Starts, loan_of, loans_of};
+ghost use Rattle.dir_disk.specs.Children.{Begins, CanStart, Child, Ends, Given as Gives, Hands, Leaves, Starts, after_start, loan_of, loans_of};
 ghost use Rattle.dir_disk.specs.Lent.{IsFree, IsNoOutput};
 ghost use Rattle.dir_disk.specs.Moments.{clock, files};
 ghost use Rattle.dir_disk.specs.State.{bytes_of};
@@ -167,6 +167,7 @@ impl<R: Roles + Drop> Roster<R> {
             Begins child self.old.seen self.new.seen result }
         ensures given { Hands given self.old.given self.new.given result }
         ensures fails { FailsIf false result }
+        ensures refused { IsErrOf result StartFault.Failed → files (told_of dir.new) ≡ after_start output.now (files (told_of dir.old)) }
         ensures lent { lent_of dir.new ≡ loans_of self.new.seen.running }
         ensures faults { faults_of dir.new ≡ faults_of dir.old }
         ensures fail { fail_of dir.new ≡ fail_of dir.old }
@@ -217,6 +218,7 @@ impl<R: Roles + Drop> Roster<R> {
         ensures faults { faults_of dir.new ≡ faults_of dir.old }
         ensures fail { fail_of dir.new ≡ fail_of dir.old }
         ensures fails { FailsIf true result }
+        ensures refused { IsErrOf result StartFault.Failed → files (told_of dir.new) ≡ after_start output.now (files (told_of dir.old)) }
     {
         let Ok(noted) = attempt.copy(alloc) else {
             return Err(StartFault::NoMemory);

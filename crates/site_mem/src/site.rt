@@ -8,8 +8,8 @@ use std::alloc::Global;
 impl<R: Roles + Drop> Site for MemSite<R> {
     ghost use Rattle.std.specs.Prelude.{Some};
     ghost use Rattle.std.proofs.Common.{ap, refl};
-    ghost use Rattle.std.specs.Prelude.{◌≡◌, ◌≤◌, length, if◌then◌else◌};
-    ghost use Rattle.dir_disk.specs.Children.{Begins, CanStart, Child, Ends, Given as Gives, Hands, Leaves, Starts, loans_of};
+    ghost use Rattle.std.specs.Prelude.{◌≡◌, ◌≤◌, IsErrOf, length, if◌then◌else◌};
+    ghost use Rattle.dir_disk.specs.Children.{Begins, CanStart, Child, Ends, Given as Gives, Hands, Leaves, Starts, after_start, loans_of};
     ghost use Rattle.dir_disk.specs.Lent.{IsFree, IsNoOutput};
     ghost use Rattle.dir_disk.specs.Moments.{clock, files};
     ghost use Rattle.dir_disk.specs.State.{bytes_of};
@@ -49,6 +49,9 @@ impl<R: Roles + Drop> Site for MemSite<R> {
 
         // It fails just where it is refused.
         ensures fails { FailsIf (is_among self.old.plan.refused attempt.now) result }
+
+        // Where it is refused, its output has now what it had.
+        ensures refused { IsErrOf result StartFault.Failed → files (told_of self.new.dir) ≡ after_start output.now (files (told_of self.old.dir)) }
     {
         let Ok(given) = Given::new(alloc, &self.dir, words, input) else {
             return Err(StartFault::NoMemory);

@@ -1,5 +1,5 @@
-use Rattle.std.proofs.Common.{rules, ◌≡◌, ◌≤◌, ℕ, length, w32, SFits, to_z, of_z, to_z-of_z, List, [], ◌∷◌, ◌++◌, ◌+◌, ◌∙◌, Some, Vec, Global, ap, sym, subst, refl, arith, take, drop}
-use Rattle.std.specs.Prelude.{ℤ, pos, if◌then◌else◌}
+use Rattle.std.proofs.Common.{rules, ◌≡◌, ◌≤◌, ℕ, length, w32, SFits, to_z, of_z, to_z-of_z, List, ◌∷◌, ◌++◌, ◌+◌, ◌∙◌, Some, ap, sym, subst, arith, take, drop}
+use Rattle.std.specs.Prelude.{ℤ, if◌then◌else◌}
 use Rattle.dir_disk.specs.Lent.{Loan}
 use Rattle.dir_disk.specs.Moments.{files}
 use Rattle.peg_base.specs.declared.tasks.Attempt.{Attempt}

@@ -1,11 +1,9 @@
-use Rattle.std.proofs.Common.{rules, ◌≡◌, List, [], ◌∷◌, ◌++◌, ◌∙◌, ap, sym, subst, arith}
-use Rattle.std.specs.Vec.{vec_len, vec_capacity}
+use Rattle.std.proofs.Common.{rules, ◌≡◌, List, [], ◌∷◌, ◌++◌, ◌∙◌, ap, sym, subst}
 use Rattle.dir_disk.specs.Lent.{IsFree, Loan}
-use Rattle.dir_disk.specs.Children.{Child, Seen, loan_of, loans_of}
+use Rattle.dir_disk.specs.Children.{Child, loan_of, loans_of}
 use Rattle.dir_disk.proofs.Lendings.{loans_end}
 use Rattle.dir_mem.specs.Memory.{lent_of}
 use Rattle.site_mem.specs.Ends.{WriteApart}
-use Rattle.site_mem.specs.Rosters.{Roll}
 use Rattle.site_mem.proofs.Leaving.{apart_more}
 use Rattle.site_mem.proofs.roster.Roster.start.Goals as goal
 
