@@ -133,7 +133,7 @@ impl<R: Files + Processes + AllocGlobal + Clone + Drop> Children<R> {
     /// Waits for the child that was started first.
     pub(crate) fn reap(&mut self) -> Ended
         requires { 1 ≤ length self.old.running }
-        ensures { (child : Seat) × Ends result.attempt result.status child self.old self.new }
+        ensures { (child : Seat) × Ends result.attempt result.status child self.old self.new × (self.old.running ≡ child ∷ self.new.running) }
     {
         let Running {
             mut process,
