@@ -107,7 +107,7 @@ pub(crate) fn success_path(alloc: Global, folder: &Path) -> Result<Path, NoMemor
 }
 
 /// A part of a folder's content.
-pub(crate) fn part_path(alloc: Global, folder: &Path, part: u32) -> Result<Path, NoMemory>
+pub fn part_path(alloc: Global, folder: &Path, part: u32) -> Result<Path, NoMemory>
     requires { length folder.now < 8 }
     ensures { IfOk result (λ path. path ≡ part_of folder.now part) }
 {

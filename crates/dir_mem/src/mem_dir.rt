@@ -242,6 +242,7 @@ impl MemDir {
         ensures fail { self.new.fail ≡ self.old.fail }
         ensures fails { FailsWhen (is_named self.old.fail.items self.old.calls) result }
         ensures later { self.old.faults ≤ self.new.faults }
+        ensures calm { OnOk result (self.new.faults ≡ self.old.faults) }
         ensures rose { IsErrOf result DirFault.Failed → Rose self.old.faults self.new.faults }
         ensures same { IsErrOf result DirFault.NoMemory → self.new.faults ≡ self.old.faults }
     {

@@ -10,6 +10,7 @@ mod start;
 mod table;
 
 pub use fault::SplitFault;
+pub use line_count::count_lines;
 pub use lines::lines_of_split;
 pub use table::{Split, split_table};
 

@@ -18,7 +18,7 @@ fn lines_of_chunk(chunk: &[u8]) -> u8
 
 /// How many lines end in these bytes. A sum of one byte adds up many bytes at once, where that of 64 bits in
 /// `memchr_iter(..).count()` takes several times as long.
-pub(crate) fn count_lines(bytes: &[u8]) -> u64
+pub fn count_lines(bytes: &[u8]) -> u64
     ensures lines { result ≡ length (cut_of bytes.now).whole }
     ensures few { result ≤ length bytes.now }
 {

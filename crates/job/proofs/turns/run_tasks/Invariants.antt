@@ -14,7 +14,7 @@ invariant-loop-made g l =
       stands : g.S.Dir.tells → NoneDead l.attempts.tasks → Stands l.tasks g.S.Site.gives (files (g.S.Dir.told l.site)) l.attempts (g.S.Site.seen l.site).running;
       left : left_of l.attempts + l.made ≤ 4 * l.tasks.count;
       log : made_in (g.S.Site.seen l.site).log ≡ made_in (g.S.Site.seen l.fn.site).log + l.made;
-      later : g.S.Dir.faults l.fn.site ≤ g.S.Dir.faults l.site;
+      later : g.S.Dir.faults l.site ≡ g.S.Dir.faults l.fn.site;
       said : g.S.Console.said l.site ≡ g.S.Console.said l.fn.site;
       says : g.S.Console.says l.site ≡ g.S.Console.says l.fn.site;
       say_faults : g.S.Console.say_faults l.site ≡ g.S.Console.say_faults l.fn.site;

@@ -12,5 +12,5 @@ invariant-loop-number g l =
       steps : g.D.Dir.tells → Through (Both (StandsBesidePasses l.scratch (passes (length l.runs)) entry)) (g.D.Dir.told l.fn.dir) (g.D.Dir.told l.dir);
       lent : g.D.Dir.lent l.dir ≡ g.D.Dir.lent l.fn.dir;
       beside : g.D.Dir.beside l.dir ≡ g.D.Dir.beside l.fn.dir;
-      later : g.D.Dir.faults l.fn.dir ≤ g.D.Dir.faults l.dir;
+      later : g.D.Dir.faults l.dir ≡ g.D.Dir.faults l.fn.dir;
     }

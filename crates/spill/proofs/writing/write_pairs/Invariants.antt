@@ -15,5 +15,5 @@ invariant-loop-line g l = record {
   sent : g.D.Dir.tells → gathered l.path (files (g.D.Dir.told l.dir)) l.piece.items ≡ pairs_text (take l.line-index l.pairs);
   lent : g.D.Dir.lent l.dir ≡ g.D.Dir.lent l.fn.dir;
   beside : g.D.Dir.beside l.dir ≡ g.D.Dir.beside l.fn.dir;
-  later : g.D.Dir.faults l.fn.dir ≤ g.D.Dir.faults l.dir;
+  later : g.D.Dir.faults l.dir ≡ g.D.Dir.faults l.fn.dir;
 }

@@ -12,5 +12,5 @@ invariant-loop-pairs g l = record {
   written : g.D.Dir.tells → WrittenBelow l.folder l.flush (map (λ pairs. pairs.items) l.parts) l.pairs-index (files (g.D.Dir.told l.dir));
   lent : g.D.Dir.lent l.dir ≡ g.D.Dir.lent l.fn.dir;
   beside : g.D.Dir.beside l.dir ≡ g.D.Dir.beside l.fn.dir;
-  later : g.D.Dir.faults l.fn.dir ≤ g.D.Dir.faults l.dir;
+  later : g.D.Dir.faults l.dir ≡ g.D.Dir.faults l.fn.dir;
 }

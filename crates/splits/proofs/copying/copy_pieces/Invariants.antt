@@ -17,7 +17,7 @@ invariant-loop-progress g l =
       stands : g.D.Dir.tells → Through (Both (StandsOutside l.out (files (g.D.Dir.told l.fn.dir)))) (g.D.Dir.told l.fn.dir) (g.D.Dir.told l.dir);
       lent : g.D.Dir.lent l.dir ≡ g.D.Dir.lent l.fn.dir;
       beside : g.D.Dir.beside l.dir ≡ g.D.Dir.beside l.fn.dir;
-      later : g.D.Dir.faults l.fn.dir ≤ g.D.Dir.faults l.dir;
+      later : g.D.Dir.faults l.dir ≡ g.D.Dir.faults l.fn.dir;
     }
 
 abbrev pub decreases-loop-progress : goal.decreases-loop-progress

@@ -12,7 +12,7 @@ invariant-loop-place g l =
       stands : g.D.Dir.tells → Through (Both (λ state. state ≡ files (g.D.Dir.told l.fn.dir))) (g.D.Dir.told l.fn.dir) (g.D.Dir.told l.dir);
       lent : g.D.Dir.lent l.dir ≡ g.D.Dir.lent l.fn.dir;
       beside : g.D.Dir.beside l.dir ≡ g.D.Dir.beside l.fn.dir;
-      later : g.D.Dir.faults l.fn.dir ≤ g.D.Dir.faults l.dir;
+      later : g.D.Dir.faults l.dir ≡ g.D.Dir.faults l.fn.dir;
     }
 
 abbrev pub decreases-loop-place : goal.decreases-loop-place
