@@ -1,0 +1,12 @@
+pub mod Names
+pub mod Keeping
+pub mod Making
+pub mod Flows
+pub mod Looks
+pub mod MakeLemmas
+pub mod EnsureLemmas
+pub mod DueLemmas
+pub mod AckLemmas
+pub mod LastLemmas
+pub mod CountLemmas
+pub mod Wholes

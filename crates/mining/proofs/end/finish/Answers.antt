@@ -1,0 +1,48 @@
+use Rattle.std.proofs.Common.{◌≡◌, ℕ, List, sym, subst}
+use Rattle.dir_disk.specs.Moments.{Told, EachImage, Through, Both, files}
+use Rattle.dir_disk.specs.Streams.{AddsPart, added}
+use Rattle.std.specs.Prelude.{◌==◌, OnOk}
+use Rattle.report.specs.Lines.{done_text}
+use Rattle.mining.specs.Flow.{Mining, mining_of}
+use Rattle.mining.specs.Kept.{Kept}
+use Rattle.mining.specs.Between.{KeepsWhole}
+use Rattle.mining.proofs.LastLemmas.{done_is, last_some}
+use Rattle.mining.proofs.AckLemmas.{acks_through}
+use Rattle.mining.proofs.end.finish.Goals as goal
+
+pub returns-in_err-total-clause-acked : goal.returns-in_err-total-clause-acked
+returns-in_err-total-clause-acked g c =
+    λ entry had tells acks.
+    acks_through had entry (g.S.Dir.told c.args.site.now) (g.S.Dir.told c.result_total.new.site) (g.S.Console.says c.args.site.now) (g.S.Console.says c.result_total.new.site) c.result_total.ensures.says (c.result_total.ensures.stays tells) acks
+
+pub returns-clause-acked : goal.returns-clause-acked
+returns-clause-acked g c =
+    λ entry had tells acks.
+    c.say_done.ensures.acked entry had tells (c.in_ok-total.ensures.fresh tells) (acks_through had entry (g.S.Dir.told c.args.site.now) (g.S.Dir.told c.result_total.new.site) (g.S.Console.says c.args.site.now) (g.S.Console.says c.result_total.new.site) c.result_total.ensures.says (c.result_total.ensures.stays tells) acks)
+
+pub returns-clause-stays : goal.returns-clause-stays
+returns-clause-stays g c =
+    λ tells.
+    let d : Told = g.S.Dir.told c.args.site.now in
+    subst (λ (t : Told). Through (Both (KeepsWhole (files d))) d t) (sym (c.say_done.ensures.told tells)) (c.result_total.ensures.stays tells)
+
+pub returns-clause-kept : goal.returns-clause-kept
+returns-clause-kept g c =
+    λ edges tells kept last form sure.
+    let mining : Mining = mining_of g.S.Site.gives c.args.conf.now edges in
+    let d : Told = g.S.Dir.told c.args.site.now in
+    subst (λ (t : Told). Through (EachImage (Kept mining)) d t) (sym (c.say_done.ensures.told tells)) (c.result_total.ensures.kept edges tells kept last form sure)
+
+pub returns-clause-part : goal.returns-clause-part
+returns-clause-part g c =
+    λ edges tells kept last at form sure.
+    let mining : Mining = mining_of g.S.Site.gives c.args.conf.now edges in
+    let line = done_is mining c.args.last.k c.args.last.changed c.in_ok-total.total (last_some mining c.args.last.k last) at.count (c.in_ok-total.ensures.total edges tells kept last form sure) in
+    subst (λ (text : List ℕ). AddsPart (g.S.Console.said c.args.site.now) (g.S.Console.said c.say_done.new.site) text) line (subst (λ o. AddsPart o (g.S.Console.said c.say_done.new.site) (done_text c.args.conf.now c.args.last.k (c.args.last.changed == 0) c.in_ok-total.total)) c.result_total.ensures.said c.say_done.ensures.part)
+
+pub returns-clause-ok : goal.returns-clause-ok
+returns-clause-ok g c =
+    λ edges tells kept last at form sure.
+    let mining : Mining = mining_of g.S.Site.gives c.args.conf.now edges in
+    let line = done_is mining c.args.last.k c.args.last.changed c.in_ok-total.total (last_some mining c.args.last.k last) at.count (c.in_ok-total.ensures.total edges tells kept last form sure) in
+    subst (λ (text : List ℕ). OnOk c.say_done.result (g.S.Console.said c.say_done.new.site ≡ added (g.S.Console.said c.args.site.now) text)) line (subst (λ o. OnOk c.say_done.result (g.S.Console.said c.say_done.new.site ≡ added o (done_text c.args.conf.now c.args.last.k (c.args.last.changed == 0) c.in_ok-total.total))) c.result_total.ensures.said c.say_done.ensures.ok)

@@ -1,0 +1,80 @@
+use Rattle.std.proofs.Common.{◌≡◌, ◌^◌, ◌<◌, ◌-◌, ℕ, Some, refl, sym, subst, arith}
+use Rattle.dir_disk.specs.Moments.{Told, EachImage, Through, files}
+use Rattle.dir_disk.specs.Streams.{AddsPart, added}
+use Rattle.dir_disk.proofs.Through.{then_goes}
+use Rattle.mining.specs.declared.place.Place.TheVariants.{Vector, Results}
+use Rattle.mining.specs.Flow.{Mining, last_of, mining_of}
+use Rattle.mining.specs.Kept.{AllKept, Kept}
+use Rattle.mining.specs.Between.{IsSure}
+use Rattle.mining.specs.Iterations.{IsAt, IsDone, console_after, done_line_at, lines_after}
+use Rattle.mining.proofs.EnsureLemmas.{kept_after, stays_after, stays_then, sure_kept}
+use Rattle.mining.proofs.LastLemmas.{all_then, end_some, is_last, most_small, on_both, part_longer, part_then, same_last}
+use Rattle.mining.proofs.end.mine_on.Goals as goal
+
+pub returns-in_err-last-clause-part : goal.returns-in_err-last-clause-part
+returns-in_err-last-clause-part g c =
+    λ edges l tells kept start form last.
+    let mining : Mining = mining_of g.S.Site.gives c.args.conf.now edges in
+    part_longer (g.S.Console.said c.args.site.now) (g.S.Console.said c.run_iterations.new.site) (lines_after mining c.args.from.k (l - c.args.from.k)) (done_line_at mining l) (c.run_iterations.ensures.part edges l tells kept start last)
+
+pub returns-then-not-is_end-clause-part : goal.returns-then-not-is_end-clause-part
+returns-then-not-is_end-clause-part g c =
+    λ edges l tells kept start form last.
+    let mining : Mining = mining_of g.S.Site.gives c.args.conf.now edges in
+    part_longer (g.S.Console.said c.args.site.now) (g.S.Console.said c.run_iterations.new.site) (lines_after mining c.args.from.k (l - c.args.from.k)) (done_line_at mining l) (c.run_iterations.ensures.part edges l tells kept start last)
+
+pub returns-clause-stays : goal.returns-clause-stays
+returns-clause-stays g c =
+    λ tells.
+    stays_then (g.S.Dir.told c.args.site.now) (g.S.Dir.told c.run_iterations.new.site) (g.S.Dir.told c.finish.new.site) (c.run_iterations.ensures.stays tells) (c.finish.ensures.stays tells)
+
+pub returns-clause-kept : goal.returns-clause-kept
+returns-clause-kept g c =
+    λ edges tells kept start form.
+    let mining : Mining = mining_of g.S.Site.gives c.args.conf.now edges in
+    let d : Told = g.S.Dir.told c.args.site.now in
+    let e : Told = g.S.Dir.told c.run_iterations.new.site in
+    let f : Told = g.S.Dir.told c.finish.new.site in
+    let k = c.in_ok-last.last.k in
+    let first : Through (EachImage (Kept mining)) d e = c.run_iterations.ensures.kept edges tells kept start in
+    let kept_then : AllKept mining (files e) = kept_after mining d e kept first in
+    let at : IsAt mining k c.in_ok-last.last.changed = c.in_ok-last.ensures.reached edges tells kept start in
+    let sure : IsSure (Vector k) (files e) = c.in_ok-last.ensures.sure tells in
+    let few : k < 10 ^ 10 = (let small = most_small c.args.conf.now c.requires.limits in let most = c.in_ok-last.ensures.few.1 in omega (arith, small, most)) in
+    let end = sym c.if-not-is_end.ensures in
+    let is : last_of mining ≡ Some k = is_last mining k c.in_ok-last.last.changed at.count (files e) (λ q. g.met.S.Dir.now_allowed c.run_iterations.new.site q tells) kept_then (end_some c.args.conf.now k (Some c.in_ok-last.last.changed) end) c.in_ok-last.ensures.few.1 few sure end in
+    then_goes (EachImage (Kept mining)) d e f first (c.finish.ensures.kept edges tells kept_then is form sure)
+
+pub returns-clause-done : goal.returns-clause-done
+returns-clause-done g c =
+    λ edges tells kept start form.
+    let mining : Mining = mining_of g.S.Site.gives c.args.conf.now edges in
+    let d : Told = g.S.Dir.told c.args.site.now in
+    let e : Told = g.S.Dir.told c.run_iterations.new.site in
+    let f : Told = g.S.Dir.told c.finish.new.site in
+    let k = c.in_ok-last.last.k in
+    let first : Through (EachImage (Kept mining)) d e = c.run_iterations.ensures.kept edges tells kept start in
+    let kept_then : AllKept mining (files e) = kept_after mining d e kept first in
+    let at : IsAt mining k c.in_ok-last.last.changed = c.in_ok-last.ensures.reached edges tells kept start in
+    let sure : IsSure (Vector k) (files e) = c.in_ok-last.ensures.sure tells in
+    let few : k < 10 ^ 10 = (let small = most_small c.args.conf.now c.requires.limits in let most = c.in_ok-last.ensures.few.1 in omega (arith, small, most)) in
+    let end = sym c.if-not-is_end.ensures in
+    let is : last_of mining ≡ Some k = is_last mining k c.in_ok-last.last.changed at.count (files e) (λ q. g.met.S.Dir.now_allowed c.run_iterations.new.site q tells) kept_then (end_some c.args.conf.now k (Some c.in_ok-last.last.changed) end) c.in_ok-last.ensures.few.1 few sure end in
+    on_both (g.S.Console.said c.finish.new.site ≡ added (g.S.Console.said c.run_iterations.new.site) (done_line_at mining k)) (IsSure Results (files f)) (IsDone mining c.args.from.k (g.S.Console.said c.args.site.now) (g.S.Console.said c.finish.new.site) (files f)) c.finish.result (λ said result. record { last = k; is = is; said = all_then (g.S.Console.said c.args.site.now) (g.S.Console.said c.run_iterations.new.site) (g.S.Console.said c.finish.new.site) (lines_after mining c.args.from.k (k - c.args.from.k)) (done_line_at mining k) (c.in_ok-last.ensures.said edges tells kept start) said; vector = sure_kept (Vector k) (files e) (files f) few refl (stays_after e f (c.finish.ensures.stays tells)) sure; result = result }) (c.finish.ensures.ok edges tells kept_then is at form sure) (c.finish.ensures.sure tells)
+
+pub returns-clause-part : goal.returns-clause-part
+returns-clause-part g c =
+    λ edges l tells kept start form last.
+    let mining : Mining = mining_of g.S.Site.gives c.args.conf.now edges in
+    let d : Told = g.S.Dir.told c.args.site.now in
+    let e : Told = g.S.Dir.told c.run_iterations.new.site in
+    let f : Told = g.S.Dir.told c.finish.new.site in
+    let k = c.in_ok-last.last.k in
+    let first : Through (EachImage (Kept mining)) d e = c.run_iterations.ensures.kept edges tells kept start in
+    let kept_then : AllKept mining (files e) = kept_after mining d e kept first in
+    let at : IsAt mining k c.in_ok-last.last.changed = c.in_ok-last.ensures.reached edges tells kept start in
+    let sure : IsSure (Vector k) (files e) = c.in_ok-last.ensures.sure tells in
+    let few : k < 10 ^ 10 = (let small = most_small c.args.conf.now c.requires.limits in let most = c.in_ok-last.ensures.few.1 in omega (arith, small, most)) in
+    let end = sym c.if-not-is_end.ensures in
+    let is : last_of mining ≡ Some k = is_last mining k c.in_ok-last.last.changed at.count (files e) (λ q. g.met.S.Dir.now_allowed c.run_iterations.new.site q tells) kept_then (end_some c.args.conf.now k (Some c.in_ok-last.last.changed) end) c.in_ok-last.ensures.few.1 few sure end in
+    subst (λ (m : ℕ). AddsPart (g.S.Console.said c.args.site.now) (g.S.Console.said c.finish.new.site) (console_after mining c.args.from.k m)) (same_last mining k l is last) (part_then (g.S.Console.said c.args.site.now) (g.S.Console.said c.run_iterations.new.site) (g.S.Console.said c.finish.new.site) (lines_after mining c.args.from.k (k - c.args.from.k)) (done_line_at mining k) (c.in_ok-last.ensures.said edges tells kept start) (c.finish.ensures.part edges tells kept_then is at form sure))

@@ -1,0 +1,40 @@
+use Rattle.std.proofs.Common.{◌≡◌, ℕ, Some, sym, ◌∙◌}
+use Rattle.dir_disk.specs.State.{IsSound}
+use Rattle.dir_disk.specs.Moments.{Told, EachImage, Through, files}
+use Rattle.dir_disk.proofs.Through.{then_goes}
+use Rattle.job.specs.Inputs.{bytes_at_each}
+use Rattle.mining.specs.declared.place.Place.TheVariants.{Vector}
+use Rattle.mining.specs.Table.{part_paths}
+use Rattle.mining.specs.Flow.{Mining, changes_in, count_of, mining_of}
+use Rattle.mining.specs.Kept.{Kept}
+use Rattle.mining.proofs.EnsureLemmas.{kept_after, looks_keep, looks_stay, stays_then}
+use Rattle.mining.proofs.DueLemmas.{count_is, if_ok}
+use Rattle.mining.proofs.iterate.new_vector.Goals as goal
+
+pub returns-clause-stays : goal.returns-clause-stays
+returns-clause-stays g c =
+    λ tells.
+    let e : Told = g.S.Dir.told c.make_vector.new.site in
+    let f : Told = g.S.Dir.told c.count_changed.new.site in
+    stays_then (g.S.Dir.told c.args.site.now) e f (c.make_vector.ensures.stays tells) (looks_stay e f (c.count_changed.ensures.stands tells))
+
+pub returns-clause-kept : goal.returns-clause-kept
+returns-clause-kept g c =
+    λ edges tells kept next.
+    let mining : Mining = mining_of g.S.Site.gives c.args.conf.now edges in
+    let d : Told = g.S.Dir.told c.args.site.now in
+    let e : Told = g.S.Dir.told c.make_vector.new.site in
+    let f : Told = g.S.Dir.told c.count_changed.new.site in
+    let first : Through (EachImage (Kept mining)) d e = c.make_vector.ensures.kept edges tells kept next in
+    then_goes (EachImage (Kept mining)) d e f first (looks_keep mining e f (kept_after mining d e kept first) (c.count_changed.ensures.stands tells))
+
+pub returns-clause-count : goal.returns-clause-count
+returns-clause-count g c =
+    λ edges tells kept next.
+    let mining : Mining = mining_of g.S.Site.gives c.args.conf.now edges in
+    let d : Told = g.S.Dir.told c.args.site.now in
+    let e : Told = g.S.Dir.told c.make_vector.new.site in
+    let first : Through (EachImage (Kept mining)) d e = c.make_vector.ensures.kept edges tells kept next in
+    let sound : IsSound (files e) = λ q. g.met.S.Dir.now_allowed c.make_vector.new.site q tells in
+    let is = count_is mining c.args.k (files e) sound (kept_after mining d e kept first) c.requires.few (c.in_ok-make_vector.ensures.sure tells) in
+    if_ok (λ (changed : ℕ). changes_in (bytes_at_each (files e) (part_paths (Vector c.args.k) c.args.conf.now.reducers)) ≡ Some changed) (λ (changed : ℕ). count_of mining c.args.k ≡ Some changed) c.count_changed.result (λ changed counted. sym is ∙ counted) (c.count_changed.ensures.count tells)

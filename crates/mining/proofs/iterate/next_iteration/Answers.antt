@@ -1,0 +1,62 @@
+use Rattle.std.proofs.Common.{refl}
+use Rattle.dir_disk.specs.Moments.{Told, EachImage, Through, files}
+use Rattle.dir_disk.proofs.Through.{then_goes}
+use Rattle.mining.specs.declared.place.Place.TheVariants.{Vector}
+use Rattle.mining.specs.Flow.{Mining, mining_of}
+use Rattle.mining.specs.Kept.{Kept}
+use Rattle.mining.proofs.AckLemmas.{acks_through}
+use Rattle.mining.proofs.EnsureLemmas.{kept_after, stays_after, stays_then, sure_kept}
+use Rattle.mining.proofs.DueLemmas.{next_kept}
+use Rattle.mining.proofs.iterate.next_iteration.Goals as goal
+
+pub returns-in_err-changed-clause-acked : goal.returns-in_err-changed-clause-acked
+returns-in_err-changed-clause-acked g c =
+    λ entry had tells acks.
+    acks_through had entry (g.S.Dir.told c.args.site.now) (g.S.Dir.told c.new_vector.new.site) (g.S.Console.says c.args.site.now) (g.S.Console.says c.new_vector.new.site) c.new_vector.ensures.says (c.new_vector.ensures.stays tells) acks
+
+pub returns-in_err-announce-clause-acked : goal.returns-in_err-announce-clause-acked
+returns-in_err-announce-clause-acked g c =
+    λ entry had tells acks.
+    c.announce.ensures.acked entry had tells (acks_through had entry (g.S.Dir.told c.args.site.now) (g.S.Dir.told c.new_vector.new.site) (g.S.Console.says c.args.site.now) (g.S.Console.says c.new_vector.new.site) c.new_vector.ensures.says (c.new_vector.ensures.stays tells) acks)
+
+pub returns-clause-acked : goal.returns-clause-acked
+returns-clause-acked g c =
+    λ entry had tells acks.
+    c.announce.ensures.acked entry had tells (acks_through had entry (g.S.Dir.told c.args.site.now) (g.S.Dir.told c.new_vector.new.site) (g.S.Console.says c.args.site.now) (g.S.Console.says c.new_vector.new.site) c.new_vector.ensures.says (c.new_vector.ensures.stays tells) acks)
+
+pub returns-in_err-announce-clause-stays : goal.returns-in_err-announce-clause-stays
+returns-in_err-announce-clause-stays g c =
+    λ tells.
+    stays_then (g.S.Dir.told c.args.site.now) (g.S.Dir.told c.new_vector.new.site) (g.S.Dir.told c.announce.new.site) (c.new_vector.ensures.stays tells) (c.announce.ensures.stays tells)
+
+pub returns-clause-stays : goal.returns-clause-stays
+returns-clause-stays g c =
+    λ tells.
+    stays_then (g.S.Dir.told c.args.site.now) (g.S.Dir.told c.new_vector.new.site) (g.S.Dir.told c.announce.new.site) (c.new_vector.ensures.stays tells) (c.announce.ensures.stays tells)
+
+pub returns-clause-sure : goal.returns-clause-sure
+returns-clause-sure g c =
+    λ tells.
+    let e : Told = g.S.Dir.told c.new_vector.new.site in
+    let f : Told = g.S.Dir.told c.announce.new.site in
+    sure_kept (Vector c.args.k) (files e) (files f) c.requires.few refl (stays_after e f (c.announce.ensures.stays tells)) (c.in_ok-changed.ensures.sure tells)
+
+pub returns-in_err-announce-clause-kept : goal.returns-in_err-announce-clause-kept
+returns-in_err-announce-clause-kept g c =
+    λ edges tells kept next.
+    let mining : Mining = mining_of g.S.Site.gives c.args.conf.now edges in
+    let d : Told = g.S.Dir.told c.args.site.now in
+    let e : Told = g.S.Dir.told c.new_vector.new.site in
+    let f : Told = g.S.Dir.told c.announce.new.site in
+    let first : Through (EachImage (Kept mining)) d e = c.new_vector.ensures.kept edges tells kept next in
+    then_goes (EachImage (Kept mining)) d e f first (c.announce.ensures.kept mining tells (kept_after mining d e kept first) (next_kept mining c.args.k (files d) (files e) (stays_after d e (c.new_vector.ensures.stays tells)) next))
+
+pub returns-clause-kept : goal.returns-clause-kept
+returns-clause-kept g c =
+    λ edges tells kept next.
+    let mining : Mining = mining_of g.S.Site.gives c.args.conf.now edges in
+    let d : Told = g.S.Dir.told c.args.site.now in
+    let e : Told = g.S.Dir.told c.new_vector.new.site in
+    let f : Told = g.S.Dir.told c.announce.new.site in
+    let first : Through (EachImage (Kept mining)) d e = c.new_vector.ensures.kept edges tells kept next in
+    then_goes (EachImage (Kept mining)) d e f first (c.announce.ensures.kept mining tells (kept_after mining d e kept first) (next_kept mining c.args.k (files d) (files e) (stays_after d e (c.new_vector.ensures.stays tells)) next))

@@ -1,0 +1,30 @@
+use Rattle.std.proofs.Common.{◌∙◌}
+use Rattle.dir_disk.specs.Moments.{Told}
+use Rattle.mining.proofs.AckLemmas.{say_acks}
+use Rattle.mining.proofs.says.say_iteration.Goals as goal
+
+pub returns-in_err-say-clause-told : goal.returns-in_err-say-clause-told
+returns-in_err-say-clause-told g c =
+    λ tells. ((g.met.S.Site.beside_console c.say.new.self c.args.site.now c.say.ensures.beside).1 tells).1
+
+pub returns-clause-told : goal.returns-clause-told
+returns-clause-told g c =
+    λ tells. ((g.met.S.Site.beside_console c.say.new.self c.args.site.now c.say.ensures.beside).1 tells).1
+
+pub returns-in_err-say-clause-acked : goal.returns-in_err-say-clause-acked
+returns-in_err-say-clause-acked g c =
+    λ entry had tells few sure fresh acks.
+    let d : Told = g.S.Dir.told c.args.site.now in
+    say_acks had entry d (g.S.Dir.told c.say.new.self) (g.S.Console.says c.args.site.now) (g.S.Console.says c.say.new.self) c.deref.result.now (g.S.Console.moment c.args.site.now) c.args.k c.args.changed c.say.result ((g.met.S.Site.beside_console c.say.new.self c.args.site.now c.say.ensures.beside).1 tells).1 c.say.ensures.says (c.deref.ensures.value ∙ c.in_ok-line.ensures) (g.met.S.Site.say_moment c.args.site.now tells) few sure fresh acks
+
+pub returns-clause-acked : goal.returns-clause-acked
+returns-clause-acked g c =
+    λ entry had tells few sure fresh acks.
+    let d : Told = g.S.Dir.told c.args.site.now in
+    say_acks had entry d (g.S.Dir.told c.say.new.self) (g.S.Console.says c.args.site.now) (g.S.Console.says c.say.new.self) c.deref.result.now (g.S.Console.moment c.args.site.now) c.args.k c.args.changed c.say.result ((g.met.S.Site.beside_console c.say.new.self c.args.site.now c.say.ensures.beside).1 tells).1 c.say.ensures.says (c.deref.ensures.value ∙ c.in_ok-line.ensures) (g.met.S.Site.say_moment c.args.site.now tells) few sure fresh acks
+
+pub returns-in_err-say-clause-faults : goal.returns-in_err-say-clause-faults
+returns-in_err-say-clause-faults g c = (g.met.S.Site.beside_console c.say.new.self c.args.site.now c.say.ensures.beside).3
+
+pub returns-clause-faults : goal.returns-clause-faults
+returns-clause-faults g c = (g.met.S.Site.beside_console c.say.new.self c.args.site.now c.say.ensures.beside).3

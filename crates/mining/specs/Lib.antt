@@ -1,0 +1,9 @@
+pub mod Places
+pub mod Table
+pub mod Flow
+pub mod Kept
+pub mod Between
+pub mod Stops
+pub mod Making
+pub mod Acked
+pub mod Iterations

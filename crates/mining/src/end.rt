@@ -1,0 +1,164 @@
+ghost use Rattle.std.specs.Prelude.{◌≡◌, ◌<◌, ◌≤◌, ◌^◌, ◌==◌, ℕ, [], List, Some, false, true, IfOk, OnOk, IsErrOf, ◌≢◌, IfErr};
+ghost use Rattle.dir_disk.specs.Causes.{HasCause};
+ghost use Rattle.dir_disk.specs.Moments.{Both, EachImage, IsFresh, Through, Told, files};
+ghost use Rattle.dir_disk.specs.Says.{Say};
+ghost use Rattle.dir_disk.specs.Streams.{AddsPart, added};
+ghost use Rattle.graph.specs.declared.edges.Edge.{Edge};
+ghost use Rattle.conf.specs.Commands.{is_mining};
+ghost use Rattle.conf.specs.Rules.{is_clustered};
+ghost use Rattle.conf.specs.Limits.{IsWithinLimits};
+ghost use Rattle.job.specs.Inputs.{bytes_at_each};
+ghost use Rattle.report.specs.Lines.{done_text};
+ghost use Rattle.mining.specs.Table.{part_paths};
+ghost use Rattle.mining.specs.Flow.{flow, last_of, mining_of, most_of, total_in};
+ghost use Rattle.mining.specs.Kept.{AllKept, Kept};
+ghost use Rattle.mining.specs.Between.{AllFirm, IsSure, KeepsWhole};
+ghost use Rattle.mining.specs.Making.{IsAsAt};
+ghost use Rattle.mining.specs.Acked.{Acks};
+ghost use Rattle.mining.specs.Iterations.{IsAt, IsDone, console_after, done_line_at};
+ghost use Rattle.mining.specs.Stops.{IsOfJobs, IsOfMining};
+
+use crate::place::Place;
+use crate::run::{Reached, is_end, make_result, run_iterations};
+use crate::says::say_done;
+use crate::stop::Stop;
+use conf::Conf;
+use dir_disk::Site;
+use std::alloc::Global;
+use store::total;
+
+/// The total of the result.
+fn read_total<S: Site>(alloc: Global, site: &mut S, conf: &Conf) -> Result<u128, Stop>
+    requires limits { IsWithinLimits conf.now }
+    requires mines { is_mining conf.now.command ≡ true }
+    requires none_running { (S.seen site.old).running ≡ [] }
+    ensures seen { S.seen site.new ≡ S.seen site.old }
+    ensures stands { S.tells
+        → Through (Both (IsAsAt (files (S.told site.old)))) (S.told site.old) (S.told site.new) }
+    ensures total { S.tells → IfOk result (λ total. total_in conf.now.command
+        (bytes_at_each (files (S.told site.old)) (part_paths Place.Results conf.now.reducers)) ≡ Some total) }
+    ensures fresh { S.tells → OnOk result (IsFresh (S.told site.new)) }
+    ensures said { S.said site.new ≡ S.said site.old }
+    ensures says { S.says site.new ≡ S.says site.old }
+    ensures say_faults { S.say_faults site.new ≡ S.say_faults site.old }
+    ensures cause { HasCause Stop.Disk (S.faults site.old) (S.faults site.new) result }
+    ensures err { IfErr result IsOfJobs }
+{
+    let folder = Place::Results.path(alloc)?;
+    Ok(total(alloc, site, &folder, conf.reducers, conf.command)?)
+}
+
+/// Makes the result, and reads its total.
+fn result_total<S: Site>(alloc: Global, site: &mut S, conf: &Conf, last: u32) -> Result<u128, Stop>
+    requires mines { is_mining conf.now.command ≡ true }
+    requires limits { IsWithinLimits conf.now }
+    requires few { last < 10 ^ 10 }
+    requires none_running { (S.seen site.old).running ≡ [] }
+    requires firm { S.tells → AllFirm (files (S.told site.old)) }
+    ensures none_running { (S.seen site.new).running ≡ [] }
+    ensures sure { S.tells → OnOk result (IsSure Place.Results (files (S.told site.new))) }
+    ensures fresh { S.tells → OnOk result (IsFresh (S.told site.new)) }
+    ensures stays { S.tells
+        → Through (Both (KeepsWhole (files (S.told site.old)))) (S.told site.old) (S.told site.new) }
+    ensures kept { (edges : List Edge) → let mining = mining_of S.gives conf.now edges in S.tells
+        → AllKept mining (files (S.told site.old)) → last_of mining ≡ Some last
+        → is_clustered conf.now.form ≡ false → IsSure (Place.Vector last) (files (S.told site.old))
+        → Through (EachImage (Kept mining)) (S.told site.old) (S.told site.new) }
+    ensures total { (edges : List Edge) → let mining = mining_of S.gives conf.now edges in S.tells
+        → AllKept mining (files (S.told site.old)) → last_of mining ≡ Some last
+        → is_clustered conf.now.form ≡ false → IsSure (Place.Vector last) (files (S.told site.old))
+        → IfOk result (λ total. total_in conf.now.command (flow mining Place.Results) ≡ Some total) }
+    ensures said { S.said site.new ≡ S.said site.old }
+    ensures says { S.says site.new ≡ S.says site.old }
+    ensures say_faults { S.say_faults site.new ≡ S.say_faults site.old }
+    ensures cause { HasCause Stop.Disk (S.faults site.old) (S.faults site.new) result }
+    ensures err { IfErr result IsOfJobs }
+{
+    make_result(alloc, site, conf, last)?;
+    read_total(alloc, site, conf)
+}
+
+/// Makes the result, and says the last line, after the last iteration.
+pub fn finish<S: Site>(alloc: Global, site: &mut S, conf: &Conf, last: Reached) -> Result<(), Stop>
+    requires limits { IsWithinLimits conf.now }
+    requires mines { is_mining conf.now.command ≡ true }
+    requires few { last.k < 10 ^ 10 }
+    requires none_running { (S.seen site.old).running ≡ [] }
+    requires firm { S.tells → AllFirm (files (S.told site.old)) }
+    ensures none_running { (S.seen site.new).running ≡ [] }
+    ensures sure { S.tells → OnOk result (IsSure Place.Results (files (S.told site.new))) }
+    ensures stays { S.tells
+        → Through (Both (KeepsWhole (files (S.told site.old)))) (S.told site.old) (S.told site.new) }
+    ensures kept { (edges : List Edge) → let mining = mining_of S.gives conf.now edges in S.tells
+        → AllKept mining (files (S.told site.old)) → last_of mining ≡ Some last.k
+        → is_clustered conf.now.form ≡ false → IsSure (Place.Vector last.k) (files (S.told site.old))
+        → Through (EachImage (Kept mining)) (S.told site.old) (S.told site.new) }
+    ensures ok { (edges : List Edge) → let mining = mining_of S.gives conf.now edges in S.tells
+        → AllKept mining (files (S.told site.old)) → last_of mining ≡ Some last.k → IsAt mining last.k last.changed
+        → is_clustered conf.now.form ≡ false → IsSure (Place.Vector last.k) (files (S.told site.old))
+        → OnOk result (S.said site.new ≡ added (S.said site.old) (done_line_at mining last.k)) }
+    ensures part { (edges : List Edge) → let mining = mining_of S.gives conf.now edges in S.tells
+        → AllKept mining (files (S.told site.old)) → last_of mining ≡ Some last.k → IsAt mining last.k last.changed
+        → is_clustered conf.now.form ≡ false → IsSure (Place.Vector last.k) (files (S.told site.old))
+        → AddsPart (S.said site.old) (S.said site.new) (done_line_at mining last.k) }
+    ensures acked { (entry : Told) (had : List Say) → S.tells
+        → Acks had entry (S.told site.old) (S.says site.old)
+        → Acks had entry (S.told site.new) (S.says site.new) }
+    ensures cause { HasCause Stop.Disk (S.faults site.old) (S.faults site.new) result }
+    ensures say_cause { HasCause Stop.Say (S.say_faults site.old) (S.say_faults site.new) result }
+    ensures err { IfErr result IsOfMining }
+{
+    let total = result_total(alloc, site, conf, last.k)?;
+    say_done(alloc, site, conf, last, total)
+}
+
+/// An iteration that is the last one that there may be, but still counts a change.
+fn not_ended(alloc: Global, last: Reached) -> Stop
+    ensures no_disk { result ≢ Stop.Disk }
+    ensures err { IsOfJobs result }
+{
+    match Place::Vector(last.k).path(alloc) {
+        Ok(path) => Stop::BadStore { path, line: 1 },
+        Err(_) => Stop::NoMemory,
+    }
+}
+
+/// Goes on after an iteration: makes the others, and then the result, and says their lines.
+pub fn mine_on<S: Site>(alloc: Global, site: &mut S, conf: &Conf, from: Reached) -> Result<(), Stop>
+    requires limits { IsWithinLimits conf.now }
+    requires mines { is_mining conf.now.command ≡ true }
+    requires from { from.k ≤ most_of conf.now conf.now.command }
+    requires none_running { (S.seen site.old).running ≡ [] }
+    requires firm { S.tells → AllFirm (files (S.told site.old)) }
+    requires sure { S.tells → IsSure (Place.Vector from.k) (files (S.told site.old)) }
+    // No child runs.
+    ensures none_running { (S.seen site.new).running ≡ [] }
+    // Whole folders stay as they are.
+    ensures stays { S.tells
+        → Through (Both (KeepsWhole (files (S.told site.old)))) (S.told site.old) (S.told site.new) }
+    // Each image at each moment is kept.
+    ensures kept { (edges : List Edge) → let mining = mining_of S.gives conf.now edges in S.tells
+        → AllKept mining (files (S.told site.old)) → IsAt mining from.k from.changed → is_clustered conf.now.form ≡ false
+        → Through (EachImage (Kept mining)) (S.told site.old) (S.told site.new) }
+    // At Ok all was said, and the last vector and the result are whole in each image.
+    ensures done { (edges : List Edge) → let mining = mining_of S.gives conf.now edges in S.tells
+        → AllKept mining (files (S.told site.old)) → IsAt mining from.k from.changed → is_clustered conf.now.form ≡ false
+        → OnOk result (IsDone mining from.k (S.said site.old) (S.said site.new) (files (S.told site.new))) }
+    // Whatever it answers, a part of that was said.
+    ensures part { (edges : List Edge) (l : ℕ) → let mining = mining_of S.gives conf.now edges in S.tells
+        → AllKept mining (files (S.told site.old)) → IsAt mining from.k from.changed → is_clustered conf.now.form ≡ false
+        → last_of mining ≡ Some l → AddsPart (S.said site.old) (S.said site.new) (console_after mining from.k l) }
+    // Each acknowledged iteration is whole in each image from its say on.
+    ensures acked { (entry : Told) (had : List Say) → S.tells
+        → Acks had entry (S.told site.old) (S.says site.old)
+        → Acks had entry (S.told site.new) (S.says site.new) }
+    ensures cause { HasCause Stop.Disk (S.faults site.old) (S.faults site.new) result }
+    ensures say_cause { HasCause Stop.Say (S.say_faults site.old) (S.say_faults site.new) result }
+    ensures err { IfErr result IsOfMining }
+{
+    let last = run_iterations(alloc, site, conf, from)?;
+    if !is_end(conf, last) {
+        return Err(not_ended(alloc, last));
+    }
+    finish(alloc, site, conf, last)
+}

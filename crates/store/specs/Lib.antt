@@ -1,0 +1,9 @@
+pub mod Comparing
+pub mod Differing
+pub mod Faults
+pub mod Ingesting
+pub mod Laws
+pub mod Parts
+pub mod Sealed
+pub mod Tallies
+pub mod Totals
