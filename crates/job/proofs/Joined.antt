@@ -13,7 +13,7 @@ use Rattle.dir_disk.specs.Moments.{Told, clock}
 use Rattle.dir_disk.specs.Children.{Given, Seen}
 use Rattle.dir_disk.specs.declared.site.LogEntry.{LogEntry}
 use Rattle.dir_disk.specs.declared.site.LogEntry.TheVariants.{Started, StartFailed, Ended}
-use Rattle.task_core.specs.Machine.{is_success, Machine, fresh}
+use Rattle.task_core.specs.Board.{Board, Rule, MayStart, fresh, is_success}
 use Rattle.committer.specs.Folders.{IsUnmarked}
 use Rattle.job.specs.declared.fault.JobFault.{JobFault}
 use Rattle.job.specs.declared.fault.JobFault.TheVariants.{TaskFailed, Disk, NoMemory}
@@ -21,10 +21,12 @@ use Rattle.job.specs.declared.spec.JobReport.{JobReport}
 use Rattle.peg_base.specs.Tasks.{same_phase}
 use Rattle.job.specs.Failing.{IsEntryOf, done_of, failed_of, is_done_of, is_failed_of, is_made, is_of, made_in, steps_of}
 use Rattle.job.specs.Going.{commits_of, givens_of}
-use Rattle.job.specs.Logged.{AreReduced, HasFewFailures, IfGivenUp, IfTaskFailed, IsCauseOf, IsCutShort, IsDone, IsLeftBy, JobAnswers, JobLog, MapLog, NamesNoTask, PhaseLog, StopsIn, StopsJob, TellsOfJob, of_phase}
+use Rattle.job.specs.Logged.{AreReduced, GoesOn, ReadTexts, NoneTwice, HasFewFailures, IfGivenUp, IfTaskFailed, IsCauseOf, IsCutShort, IsDone, IsLeftBy, JobAnswers, JobLog, MapLog, NamesNoTask, PhaseLog, StopsIn, StopsJob, TellsOfJob, of_phase}
 use Rattle.job.specs.Output.{Plan, map_inputs, reduce_inputs}
 use Rattle.job.specs.Ran.{StopsEarly, TellsOf}
 use Rattle.job.specs.Work.{Work, task_id, work_of}
+use Rattle.job.proofs.Logs.{read_later}
+use Rattle.job.proofs.LogLemmas.{once_tells}
 
 -- ---- entries of the other phase
 
@@ -170,8 +172,8 @@ left_reduced folder reducers entries s NoMemory none reduced = inr reduced
 
 -- ---- the log of a job
 
-pub phase_log_texts : (tells : Type 0) (w : Work) (slots : ℕ) (texts others : List (List ℕ)) (old new : Seen) (had has : List Given) (e : Told) (result : Result ℕ JobFault) → (tells → texts ≡ others) → PhaseLog tells w slots texts old new had has e result → PhaseLog tells w slots others old new had has e result
-phase_log_texts tells w slots texts others old new had has e result same phase =
+pub phase_log_texts : (S : Rule) (tells : Type 0) (w : Work) (slots : ℕ) (texts others : List (List ℕ)) (old new : Seen) (had has : List Given) (e : Told) (result : Result ℕ JobFault) → (tells → texts ≡ others) → PhaseLog S tells w slots texts old new had has e result → PhaseLog S tells w slots others old new had has e result
+phase_log_texts S tells w slots texts others old new had has e result same phase =
     record {
       entries = phase.entries;
       log = phase.log;
@@ -179,6 +181,7 @@ phase_log_texts tells w slots texts others old new had has e result same phase =
       run = phase.run;
       began = phase.began;
       givens = λ tell. phase.givens tell ∙ ap (λ (all : List (List ℕ)). had ++ givens_of w (λ t. get_or all t []) phase.began (fresh w.count slots) (steps_of phase.entries)) (same tell);
+      read = λ tell. subst (λ (all : List (List ℕ)). ReadTexts w all phase.began phase.entries e) (same tell) (phase.read tell);
       calls = phase.calls;
       stopped = phase.stopped;
       start_faults = phase.start_faults;
@@ -191,42 +194,42 @@ joined_log a b c h maps reduces first second same =
     ap (λ (s : Seen). s.log) same ∙ second ∙ ap (λ (xs : List LogEntry). xs ++ reduces) first ∙ append_assoc a.log maps reduces
 
 -- the dead task is one of this phase
-pub calls_of_map : (w : Work) (m : Machine) (entries : List LogEntry) (fault : JobFault) (calls by_map by_reduce : ℕ) → w.phase ≡ Map → IsCauseOf w m entries fault → (let result : Result ℕ JobFault = Err fault in IfTaskFailed result (λ id. calls ≡ by_map)) → (let result : Result JobReport JobFault = Err fault in IfTaskFailed result (λ id. calls ≡ of_phase id.phase by_map by_reduce))
-calls_of_map w m entries (TaskFailed id) calls by_map by_reduce is_map doomed are =
+pub calls_of_map : (S : Rule) (w : Work) (m : Board) (entries : List LogEntry) (fault : JobFault) (calls by_map by_reduce : ℕ) → w.phase ≡ Map → IsCauseOf S w m entries fault → (let result : Result ℕ JobFault = Err fault in IfTaskFailed result (λ id. calls ≡ by_map)) → (let result : Result JobReport JobFault = Err fault in IfTaskFailed result (λ id. calls ≡ of_phase id.phase by_map by_reduce))
+calls_of_map S w m entries (TaskFailed id) calls by_map by_reduce is_map doomed are =
     let phase : id.phase ≡ Map = ap (λ (i : TaskId). i.phase) doomed.named ∙ is_map in
     are ∙ ap (λ (p : Phase). of_phase p by_map by_reduce) (sym phase)
-calls_of_map w m entries Disk calls by_map by_reduce is_map given_up are = tt
-calls_of_map w m entries NoMemory calls by_map by_reduce is_map given_up are = tt
+calls_of_map S w m entries Disk calls by_map by_reduce is_map given_up are = tt
+calls_of_map S w m entries NoMemory calls by_map by_reduce is_map given_up are = tt
 
-pub calls_of_reduce : (w : Work) (m : Machine) (entries : List LogEntry) (fault : JobFault) (calls by_map by_reduce : ℕ) → w.phase ≡ Reduce → IsCauseOf w m entries fault → (let result : Result ℕ JobFault = Err fault in IfTaskFailed result (λ id. calls ≡ by_reduce)) → (let result : Result JobReport JobFault = Err fault in IfTaskFailed result (λ id. calls ≡ of_phase id.phase by_map by_reduce))
-calls_of_reduce w m entries (TaskFailed id) calls by_map by_reduce is_reduce doomed are =
+pub calls_of_reduce : (S : Rule) (w : Work) (m : Board) (entries : List LogEntry) (fault : JobFault) (calls by_map by_reduce : ℕ) → w.phase ≡ Reduce → IsCauseOf S w m entries fault → (let result : Result ℕ JobFault = Err fault in IfTaskFailed result (λ id. calls ≡ by_reduce)) → (let result : Result JobReport JobFault = Err fault in IfTaskFailed result (λ id. calls ≡ of_phase id.phase by_map by_reduce))
+calls_of_reduce S w m entries (TaskFailed id) calls by_map by_reduce is_reduce doomed are =
     let phase : id.phase ≡ Reduce = ap (λ (i : TaskId). i.phase) doomed.named ∙ is_reduce in
     are ∙ ap (λ (p : Phase). of_phase p by_map by_reduce) (sym phase)
-calls_of_reduce w m entries Disk calls by_map by_reduce is_reduce given_up are = tt
-calls_of_reduce w m entries NoMemory calls by_map by_reduce is_reduce given_up are = tt
+calls_of_reduce S w m entries Disk calls by_map by_reduce is_reduce given_up are = tt
+calls_of_reduce S w m entries NoMemory calls by_map by_reduce is_reduce given_up are = tt
 
 -- it was given up in its map stage, in its reduce stage, or at its commit
-stops_in_maps : (m n : Machine) (maps : List LogEntry) (map_began reduce_began calls : ℕ) (fault : JobFault) → (let result : Result ℕ JobFault = Err fault in IfGivenUp result (λ exact. StopsIn exact m maps map_began calls)) → (let result : Result JobReport JobFault = Err fault in IfGivenUp result (λ exact. StopsJob exact m n maps [] map_began reduce_began calls))
-stops_in_maps m n maps map_began reduce_began calls (TaskFailed id) stops = tt
-stops_in_maps m n maps map_began reduce_began calls Disk stops = inl (refl, stops)
-stops_in_maps m n maps map_began reduce_began calls NoMemory stops = inl (refl, stops)
+stops_in_maps : (S : Rule) (m n : Board) (maps : List LogEntry) (map_began reduce_began calls : ℕ) (fault : JobFault) → (let result : Result ℕ JobFault = Err fault in IfGivenUp result (λ exact. StopsIn S exact m maps map_began calls)) → (let result : Result JobReport JobFault = Err fault in IfGivenUp result (λ exact. StopsJob S exact m n maps [] map_began reduce_began calls))
+stops_in_maps S m n maps map_began reduce_began calls (TaskFailed id) stops = tt
+stops_in_maps S m n maps map_began reduce_began calls Disk stops = inl (refl, stops)
+stops_in_maps S m n maps map_began reduce_began calls NoMemory stops = inl (refl, stops)
 
-pub stops_in_reduces : (m n : Machine) (maps reduces : List LogEntry) (map_began reduce_began calls : ℕ) (fault : JobFault) → IsDone m maps → (let result : Result ℕ JobFault = Err fault in IfGivenUp result (λ exact. StopsIn exact n reduces reduce_began calls)) → (let result : Result JobReport JobFault = Err fault in IfGivenUp result (λ exact. StopsJob exact m n maps reduces map_began reduce_began calls))
-stops_in_reduces m n maps reduces map_began reduce_began calls (TaskFailed id) done stops = tt
-stops_in_reduces m n maps reduces map_began reduce_began calls Disk done stops =
+pub stops_in_reduces : (S : Rule) (m n : Board) (maps reduces : List LogEntry) (map_began reduce_began calls : ℕ) (fault : JobFault) → IsDone S m maps → (let result : Result ℕ JobFault = Err fault in IfGivenUp result (λ exact. StopsIn S exact n reduces reduce_began calls)) → (let result : Result JobReport JobFault = Err fault in IfGivenUp result (λ exact. StopsJob S exact m n maps reduces map_began reduce_began calls))
+stops_in_reduces S m n maps reduces map_began reduce_began calls (TaskFailed id) done stops = tt
+stops_in_reduces S m n maps reduces map_began reduce_began calls Disk done stops =
     inr (inl (done, stops))
-stops_in_reduces m n maps reduces map_began reduce_began calls NoMemory done stops =
+stops_in_reduces S m n maps reduces map_began reduce_began calls NoMemory done stops =
     inr (inl (done, stops))
 
-pub stops_at_commit : (m n : Machine) (maps reduces : List LogEntry) (map_began reduce_began calls : ℕ) (fault : JobFault) → IsDone m maps → IsDone n reduces → (let result : Result JobReport JobFault = Err fault in IfGivenUp result (λ exact. StopsJob exact m n maps reduces map_began reduce_began calls))
-stops_at_commit m n maps reduces map_began reduce_began calls (TaskFailed id) done all = tt
-stops_at_commit m n maps reduces map_began reduce_began calls Disk done all =
+pub stops_at_commit : (S : Rule) (m n : Board) (maps reduces : List LogEntry) (map_began reduce_began calls : ℕ) (fault : JobFault) → IsDone S m maps → IsDone S n reduces → (let result : Result JobReport JobFault = Err fault in IfGivenUp result (λ exact. StopsJob S exact m n maps reduces map_began reduce_began calls))
+stops_at_commit S m n maps reduces map_began reduce_began calls (TaskFailed id) done all = tt
+stops_at_commit S m n maps reduces map_began reduce_began calls Disk done all =
     inr (inr (done, all))
-stops_at_commit m n maps reduces map_began reduce_began calls NoMemory done all =
+stops_at_commit S m n maps reduces map_began reduce_began calls NoMemory done all =
     inr (inr (done, all))
 
-pub job_log : (tells : Type 0) (gives : List (List ℕ) → List ℕ → List ℕ) (folder : Names) (plan : Plan) (slots count : ℕ) (a b c h : Seen) (had has have given : List Given) (mid late last : Told) (m r : Result ℕ JobFault) (result : Result JobReport JobFault) → (tells → count ≡ length (map_inputs plan)) → (maps : PhaseLog tells (work_of folder Map plan.map_words count) slots (map_inputs plan) a b had has mid m) → (reduces : PhaseLog tells (work_of folder Reduce plan.reduce_words plan.reducers) slots (reduce_inputs gives plan) b c has have late r) → h ≡ c → (tells → given ≡ have) → JobAnswers (work_of folder Map plan.map_words count) (work_of folder Reduce plan.reduce_words plan.reducers) slots maps.entries reduces.entries result → (tells → IfTaskFailed result (λ id. clock last ≡ of_phase id.phase (maps.began + commits_of (fresh count slots) (steps_of maps.entries)) (reduces.began + commits_of (fresh plan.reducers slots) (steps_of reduces.entries)))) → (tells → IfGivenUp result (λ exact. StopsJob exact (fresh count slots) (fresh plan.reducers slots) maps.entries reduces.entries maps.began reduces.began (clock last))) → JobLog tells gives folder plan slots a h had given last result
-job_log tells gives folder plan slots count a b c h had has have given mid late last m r result counted maps reduces same same_given answer calls stopped =
+pub job_log : (S : Rule) (tells : Type 0) (gives : List (List ℕ) → List ℕ → List ℕ) (folder : Names) (plan : Plan) (slots count : ℕ) (a b c h : Seen) (had has have given : List Given) (mid late last : Told) (m r : Result ℕ JobFault) (result : Result JobReport JobFault) → (tells → count ≡ length (map_inputs plan)) → (tells → GoesOn mid last) → (tells → GoesOn late last) → (maps : PhaseLog S tells (work_of folder Map plan.map_words count) slots (map_inputs plan) a b had has mid m) → (reduces : PhaseLog S tells (work_of folder Reduce plan.reduce_words plan.reducers) slots (reduce_inputs gives plan) b c has have late r) → h ≡ c → (tells → given ≡ have) → JobAnswers S (work_of folder Map plan.map_words count) (work_of folder Reduce plan.reduce_words plan.reducers) slots maps.entries reduces.entries result → (tells → IfTaskFailed result (λ id. clock last ≡ of_phase id.phase (maps.began + commits_of (fresh count slots) (steps_of maps.entries)) (reduces.began + commits_of (fresh plan.reducers slots) (steps_of reduces.entries)))) → (tells → IfGivenUp result (λ exact. StopsJob S exact (fresh count slots) (fresh plan.reducers slots) maps.entries reduces.entries maps.began reduces.began (clock last))) → JobLog S tells gives folder plan slots a h had given last result
+job_log S tells gives folder plan slots count a b c h had has have given mid late last m r result counted maps_on reduces_on maps reduces same same_given answer calls stopped =
     let v = work_of folder Map plan.map_words count in
     let w = work_of folder Reduce plan.reduce_words plan.reducers in
     let first = givens_of v (λ t. get_or (map_inputs plan) t []) maps.began (fresh count slots) (steps_of maps.entries) in
@@ -244,6 +247,8 @@ job_log tells gives folder plan slots count a b c h had has have given mid late 
       map_began = maps.began;
       reduce_began = reduces.began;
       givens = λ tell. same_given tell ∙ reduces.givens tell ∙ ap (λ (gs : List Given). gs ++ second) (maps.givens tell) ∙ append_assoc had first second;
+      map_read = λ tell. read_later v (map_inputs plan) maps.began maps.entries mid last (maps_on tell) (maps.read tell);
+      reduce_read = λ tell. read_later w (reduce_inputs gives plan) reduces.began reduces.entries late last (reduces_on tell) (reduces.read tell);
       calls = calls;
       stopped = stopped;
       start_faults = let e : h.start_faults ≡ c.start_faults = ap (λ (s : Seen). s.start_faults) same in omega (arith, e, maps.start_faults, reduces.start_faults);
@@ -251,8 +256,8 @@ job_log tells gives folder plan slots count a b c h had has have given mid late 
     }
 
 -- the job ended in its map stage
-pub job_log_maps : (tells : Type 0) (gives : List (List ℕ) → List ℕ → List ℕ) (folder : Names) (plan : Plan) (slots : ℕ) (a b : Seen) (had has : List Given) (last : Told) (fault : JobFault) → MapLog tells folder plan slots a b had has last (Err fault) → JobLog tells gives folder plan slots a b had has last (Err fault)
-job_log_maps tells gives folder plan slots a b had has last fault log =
+pub job_log_maps : (S : Rule) (tells : Type 0) (gives : List (List ℕ) → List ℕ → List ℕ) (folder : Names) (plan : Plan) (slots : ℕ) (a b : Seen) (had has : List Given) (last : Told) (fault : JobFault) → MapLog S tells folder plan slots a b had has last (Err fault) → JobLog S tells gives folder plan slots a b had has last (Err fault)
+job_log_maps S tells gives folder plan slots a b had has last fault log =
     let maps = log.phase in
     let v = work_of folder Map plan.map_words log.count in
     let machine = fresh log.count slots in
@@ -270,8 +275,21 @@ job_log_maps tells gives folder plan slots a b had has last fault log =
       map_began = maps.began;
       reduce_began = 0;
       givens = λ tell. maps.givens tell ∙ ap (λ (gs : List Given). had ++ gs) (sym (append-nil first));
-      calls = λ tell. calls_of_map v machine maps.entries fault (clock last) (maps.began + commits_of machine (steps_of maps.entries)) (0 + commits_of (fresh plan.reducers slots) []) refl maps.answer (maps.calls tell);
-      stopped = λ tell. stops_in_maps machine (fresh plan.reducers slots) maps.entries maps.began 0 (clock last) fault (maps.stopped tell);
+      map_read = maps.read;
+      reduce_read = λ _. inl refl;
+      calls = λ tell. calls_of_map S v machine maps.entries fault (clock last) (maps.began + commits_of machine (steps_of maps.entries)) (0 + commits_of (fresh plan.reducers slots) []) refl maps.answer (maps.calls tell);
+      stopped = λ tell. stops_in_maps S machine (fresh plan.reducers slots) maps.entries maps.began 0 (clock last) fault (maps.stopped tell);
       start_faults = maps.start_faults;
       answer = inl (maps.answer, refl);
     }
+
+-- where at most one attempt of a task runs at once no task succeeds twice
+pub none_twice : (tells : Type 0) (gives : List (List ℕ) → List ℕ → List ℕ) (folder : Names) (plan : Plan) (slots : ℕ) (old new : Seen) (had has : List Given) (e : Told) (result : Result JobReport JobFault) → (log : JobLog MayStart tells gives folder plan slots old new had has e result) → NoneTwice folder (log.maps ++ log.reduces)
+none_twice tells gives folder plan slots old new had has e result log t =
+    let v = work_of folder Map plan.map_words log.count in
+    let w = work_of folder Reduce plan.reduce_words plan.reducers in
+    let map = task_id folder Map t in
+    let reduce = task_id folder Reduce t in (
+      omega (arith, done-append map log.maps log.reduces, done_none w map log.reduces refl log.of_reduces, once_tells v slots log.maps t log.of_maps log.map_run),
+      omega (arith, done-append reduce log.maps log.reduces, done_none v reduce log.maps refl log.of_maps, once_tells w slots log.reduces t log.of_reduces log.reduce_run),
+    )

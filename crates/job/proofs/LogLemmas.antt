@@ -1,7 +1,8 @@
 -- What the entries of a log tell of a task is what the steps of the machine tell.
-use Rattle.std.proofs.Common.{◌≡◌, ◌≢◌, ℕ, ◌+◌, ◌<◌, Bool, true, cond, eqb, ◌&&◌, not, List, [], ◌∷◌, ◌++◌, length, drop, Option, Result, Ok, Err, refl, sym, ap, ◌∙◌, subst, arith}
+use Rattle.std.proofs.Common.{◌≡◌, ℕ, ◌+◌, ◌<◌, ◌≤◌, Bool, true, false, cond, eqb, ◌&&◌, not, List, [], ◌∷◌, ◌++◌, length, drop, Result, Ok, Err, refl, sym, ap, ◌∙◌, subst, arith}
 use Rattle.std.specs.List.{AllByRecursion}
-use Rattle.std.proofs.lemmas.List.{append-nil}
+use Rattle.std.proofs.lemmas.Bool.{false≢true}
+use Rattle.std.proofs.lemmas.List.{append-nil, map-append}
 use Rattle.std.proofs.lemmas.List.Sums.{sum_by-cons}
 use Rattle.std.proofs.Math.Seq.{drop-append_seam}
 use Rattle.peg_base.specs.Names.{Names, same_path}
@@ -13,11 +14,11 @@ use Rattle.dir_disk.specs.Moments.{Told}
 use Rattle.dir_disk.specs.Children.{Given, Seen}
 use Rattle.dir_disk.specs.declared.site.LogEntry.{LogEntry}
 use Rattle.dir_disk.specs.declared.site.LogEntry.TheVariants.{Started, StartFailed as Refused, Ended as Left}
-use Rattle.task_core.specs.declared.task.Task.{Task}
-use Rattle.task_core.specs.declared.task.Task.TheVariants.{Ready, Running, Done, Dead}
-use Rattle.task_core.specs.Machine.{task_at, fresh, after_all, is_success, IsBusy, IsBusyRun, NoneDead}
+use Rattle.task_core.specs.Board.{is_success, Step, MayStart, IsRun, AtAnyTime, Rule, IsRule, Tried, Open, Finished, tried_at, fresh, after_all, is_dead, is_done, IsBusy, IsBusyRun, NoneDead}
 use Rattle.task_core.specs.Log.{is_failure_of, is_success_of, failures_of, successes_of}
-use Rattle.task_core.proofs.History.{Counts, Tells, Tells-run, dead_iff, done_iff}
+use Rattle.task_core.proofs.OneAtOnce.{at_most_one}
+use Rattle.task_core.proofs.TriedLemmas.{IsRunWhere-append}
+use Rattle.task_core.proofs.History.{IsRun-from_where, tells_run, dead_counts as dead_of, alive_counts, done_counts as done_of_counts}
 use Rattle.job.specs.declared.fault.JobFault.{JobFault}
 use Rattle.job.specs.declared.fault.JobFault.TheVariants.{TaskFailed, Disk, NoMemory}
 use Rattle.job.specs.Work.{Work, task_id}
@@ -60,61 +61,71 @@ done_counts w (x ∷ xs) t each =
 
 -- ---- the state after a busy run, told by its entries
 
-dead_tells : (w : Work) (slots : ℕ) (xs : List LogEntry) (t : ℕ) → AllByRecursion (IsEntryOf w) xs → IsBusyRun (fresh w.count slots) (steps_of xs) → task_at (after_all (fresh w.count slots) (steps_of xs)).tasks t ≡ Dead → failed_of (task_id w.folder w.phase t) xs ≡ 4
-dead_tells w slots xs t each run dead =
-    failed_counts w xs t each ∙ (dead_iff w.count t _ _ _ _ _ (Tells-run IsBusy w.count slots t (steps_of xs) run)).0 dead
+dead_tells : (S : Rule) → IsRule S → (w : Work) (slots : ℕ) (xs : List LogEntry) (t : ℕ) → AllByRecursion (IsEntryOf w) xs → IsBusyRun S (fresh w.count slots) (steps_of xs) → is_dead (tried_at (after_all (fresh w.count slots) (steps_of xs)).tasks t) ≡ true → (failed_of (task_id w.folder w.phase t) xs ≡ 4) × (t < w.count)
+dead_tells S rule w slots xs t each run dead =
+    let is = dead_of w.count t (tried_at (after_all (fresh w.count slots) (steps_of xs)).tasks t) _ (failures_of t (steps_of xs)) _ dead (tells_run S rule (IsBusy S) w.count slots t (steps_of xs) run) in
+    (failed_counts w xs t each ∙ is.0, is.1)
 
-dead_below : (w : Work) (slots : ℕ) (xs : List LogEntry) (t : ℕ) → IsBusyRun (fresh w.count slots) (steps_of xs) → task_at (after_all (fresh w.count slots) (steps_of xs)).tasks t ≡ Dead → t < w.count
-dead_below w slots xs t run dead =
-    (subst (λ (x : Task). Tells w.count t x (steps_of xs)) dead (Tells-run IsBusy w.count slots t (steps_of xs) run)).0.task
-
-few_failed : (n t : ℕ) (task : Task) (c f s : ℕ) (r : Option ℕ) → task ≢ Dead → Counts n t task c f s r → f < 4
-few_failed n t (Ready a) c f s r alive counts = omega (arith, counts.0.last, counts.0.failures)
-few_failed n t (Running a) c f s r alive counts = omega (arith, counts.0.last, counts.0.failures)
-few_failed n t Done c f s r alive counts = omega (arith, counts.0.failures)
-few_failed n t Dead c f s r alive counts = absurd (alive refl)
-
-alive_tells : (w : Work) (slots : ℕ) (xs : List LogEntry) (t : ℕ) → AllByRecursion (IsEntryOf w) xs → IsBusyRun (fresh w.count slots) (steps_of xs) → task_at (after_all (fresh w.count slots) (steps_of xs)).tasks t ≢ Dead → failed_of (task_id w.folder w.phase t) xs < 4
-alive_tells w slots xs t each run alive =
-    let few = few_failed w.count t (task_at (after_all (fresh w.count slots) (steps_of xs)).tasks t) _ (failures_of t (steps_of xs)) _ _ alive (Tells-run IsBusy w.count slots t (steps_of xs) run) in
+alive_tells : (S : Rule) → IsRule S → (w : Work) (slots : ℕ) (xs : List LogEntry) (t : ℕ) → AllByRecursion (IsEntryOf w) xs → IsBusyRun S (fresh w.count slots) (steps_of xs) → is_dead (tried_at (after_all (fresh w.count slots) (steps_of xs)).tasks t) ≡ false → failed_of (task_id w.folder w.phase t) xs < 4
+alive_tells S rule w slots xs t each run alive =
+    let few = alive_counts w.count t (tried_at (after_all (fresh w.count slots) (steps_of xs)).tasks t) _ (failures_of t (steps_of xs)) _ alive (tells_run S rule (IsBusy S) w.count slots t (steps_of xs) run) in
     omega (arith, few, failed_counts w xs t each)
 
-done_tells : (w : Work) (slots : ℕ) (xs : List LogEntry) (t : ℕ) → AllByRecursion (IsEntryOf w) xs → IsBusyRun (fresh w.count slots) (steps_of xs) → t < w.count → task_at (after_all (fresh w.count slots) (steps_of xs)).tasks t ≡ Done → done_of (task_id w.folder w.phase t) xs ≡ 1
-done_tells w slots xs t each run below done =
-    done_counts w xs t each ∙ (done_iff w.count t _ _ _ _ _ below (Tells-run IsBusy w.count slots t (steps_of xs) run)).0 done
+done_tells : (S : Rule) → IsRule S → (w : Work) (slots : ℕ) (xs : List LogEntry) (t : ℕ) → AllByRecursion (IsEntryOf w) xs → IsBusyRun S (fresh w.count slots) (steps_of xs) → t < w.count → is_done (tried_at (after_all (fresh w.count slots) (steps_of xs)).tasks t) ≡ true → 1 ≤ done_of (task_id w.folder w.phase t) xs
+done_tells S rule w slots xs t each run below done =
+    let some = done_of_counts w.count t (tried_at (after_all (fresh w.count slots) (steps_of xs)).tasks t) _ _ (successes_of t (steps_of xs)) done below (tells_run S rule (IsBusy S) w.count slots t (steps_of xs) run) in
+    omega (arith, some, done_counts w xs t each)
 
-not_done_dead : (task : Task) → task ≡ Done → task ≢ Dead
-not_done_dead task done dead = cc
+not_done_dead : (v : Tried) → is_done v ≡ true → is_dead v ≡ false
+not_done_dead (Open n rs) done = absurd (false≢true done)
+not_done_dead (Finished rs) done = refl
 
 each_front : (w : Work) (front ends : List LogEntry) → AllByRecursion (IsEntryOf w) (front ++ ends) → AllByRecursion (IsEntryOf w) front
 each_front w [] ends each = tt
 each_front w (x ∷ front) ends each = (each.0, each_front w front ends each.1)
 
-stops_early : (w : Work) (slots : ℕ) (front ends : List LogEntry) → AllByRecursion (IsEntryOf w) (front ++ ends) → IsBusyRun (fresh w.count slots) (steps_of front) → made_in ends ≡ 0 → NoneDead (after_all (fresh w.count slots) (steps_of front)).tasks → StopsEarly w.folder w.phase (front ++ ends)
-stops_early w slots front ends each run made none =
+stops_early : (S : Rule) → IsRule S → (w : Work) (slots : ℕ) (front ends : List LogEntry) → AllByRecursion (IsEntryOf w) (front ++ ends) → IsBusyRun S (fresh w.count slots) (steps_of front) → made_in ends ≡ 0 → NoneDead (after_all (fresh w.count slots) (steps_of front)).tasks → StopsEarly w.folder w.phase (front ++ ends)
+stops_early S rule w slots front ends each run made none =
     record {
       front = front;
       ends = ends;
       parts = refl;
-      few = λ t. alive_tells w slots front t (each_front w front ends each) run (none t);
+      few = λ t. alive_tells S rule w slots front t (each_front w front ends each) run (none t);
       none_made = made;
     }
 
-answer_tells : (w : Work) (slots : ℕ) (front ends : List LogEntry) (r : Result ℕ JobFault) → AllByRecursion (IsEntryOf w) (front ++ ends) → IsBusyRun (fresh w.count slots) (steps_of front) → made_in ends ≡ 0 → Answers w (after_all (fresh w.count slots) (steps_of front)) front ends r → TellsOf w.folder w.phase w.count (front ++ ends) r
-answer_tells w slots front ends (Ok made) each run none answer =
+answer_tells : (S : Rule) → IsRule S → (w : Work) (slots : ℕ) (front ends : List LogEntry) (r : Result ℕ JobFault) → AllByRecursion (IsEntryOf w) (front ++ ends) → IsBusyRun S (fresh w.count slots) (steps_of front) → made_in ends ≡ 0 → Answers w (after_all (fresh w.count slots) (steps_of front)) front ends r → TellsOf w.folder w.phase w.count (front ++ ends) r
+answer_tells S rule w slots front ends (Ok made) each run none answer =
     let whole : front ++ ends ≡ front = ap (λ (l : List LogEntry). front ++ l) answer.2 ∙ append-nil front in
     let here = each_front w front ends each in
-    subst (λ (l : List LogEntry). TellsOf w.folder w.phase w.count l (Ok made)) (sym whole) (answer.1, (λ t. alive_tells w slots front t here run (not_done_dead (task_at (after_all (fresh w.count slots) (steps_of front)).tasks t) (answer.0 t))), (λ t below. done_tells w slots front t here run below (answer.0 t)))
-answer_tells w slots front ends (Err (TaskFailed id)) each run none answer =
+    subst (λ (l : List LogEntry). TellsOf w.folder w.phase w.count l (Ok made)) (sym whole) (answer.1, (λ t. alive_tells S rule w slots front t here run (not_done_dead (tried_at (after_all (fresh w.count slots) (steps_of front)).tasks t) (answer.0 t))), (λ t below. done_tells S rule w slots front t here run below (answer.0 t)))
+answer_tells S rule w slots front ends (Err (TaskFailed id)) each run none answer =
     let whole : front ++ ends ≡ front = ap (λ (l : List LogEntry). front ++ l) answer.2 ∙ append-nil front in
     let here = each_front w front ends each in
-    let four : failed_of (task_id w.folder w.phase id.task) front ≡ 4 = dead_tells w slots front id.task here run answer.1.dead in
+    let four : failed_of (task_id w.folder w.phase id.task) front ≡ 4 = (dead_tells S rule w slots front id.task here run answer.1.dead).0 in
     let four_is : failed_of id front ≡ 4 = subst (λ i. failed_of i front ≡ 4) (sym answer.0) four in
-    subst (λ (l : List LogEntry). TellsOf w.folder w.phase w.count l (Err (TaskFailed id))) (sym whole) (answer.0, dead_below w slots front id.task run answer.1.dead, four_is, (λ t less. alive_tells w slots front t here run (answer.1.least t less)))
-answer_tells w slots front ends (Err Disk) each run none answer = stops_early w slots front ends each run none answer
-answer_tells w slots front ends (Err NoMemory) each run none answer = stops_early w slots front ends each run none answer
+    subst (λ (l : List LogEntry). TellsOf w.folder w.phase w.count l (Err (TaskFailed id))) (sym whole) (answer.0, (dead_tells S rule w slots front id.task here run answer.1.dead).1, four_is, (λ t less. alive_tells S rule w slots front t here run (answer.1.least t less)))
+answer_tells S rule w slots front ends (Err Disk) each run none answer = stops_early S rule w slots front ends each run none answer
+answer_tells S rule w slots front ends (Err NoMemory) each run none answer = stops_early S rule w slots front ends each run none answer
 
-pub ran_tells : (tells : Type 0) (w : Work) (slots : ℕ) (inputs : ℕ → List ℕ) (old new : Seen) (had has : List Given) (d e : Told) (r : Result ℕ JobFault) → Ran tells w slots inputs old new had has d e r → TellsOf w.folder w.phase w.count (gained old.log new.log) r
-ran_tells tells w slots inputs old new had has d e r ran =
+pub ran_tells : (S : Rule) → IsRule S → (tells : Type 0) (w : Work) (slots : ℕ) (inputs : ℕ → List ℕ) (old new : Seen) (had has : List Given) (d e : Told) (r : Result ℕ JobFault) → Ran S tells w (fresh w.count slots) inputs old new had has d e r → TellsOf w.folder w.phase w.count (gained old.log new.log) r
+ran_tells S rule tells w slots inputs old new had has d e r ran =
     let gains : gained old.log new.log ≡ ran.front ++ ran.ends = ap (λ (l : List LogEntry). drop (length old.log) l) ran.log ∙ drop-append_seam old.log (ran.front ++ ran.ends) in
-    subst (λ (l : List LogEntry). TellsOf w.folder w.phase w.count l r) (sym gains) (answer_tells w slots ran.front ran.ends r ran.of_work ran.busy ran.none_made ran.answer)
+    subst (λ (l : List LogEntry). TellsOf w.folder w.phase w.count l r) (sym gains) (answer_tells S rule w slots ran.front ran.ends r ran.of_work ran.busy ran.none_made ran.answer)
+
+-- ---- where at most one attempt of a task runs at once
+
+-- no task succeeds twice
+pub once_tells : (w : Work) (slots : ℕ) (xs : List LogEntry) (t : ℕ) → AllByRecursion (IsEntryOf w) xs → IsRun MayStart (fresh w.count slots) (steps_of xs) → done_of (task_id w.folder w.phase t) xs ≤ 1
+once_tells w slots xs t each run =
+    let few = at_most_one w.count slots t (steps_of xs) run in omega (arith, few, done_counts w xs t each)
+
+pub ran_once : (tells : Type 0) (w : Work) (slots : ℕ) (inputs : ℕ → List ℕ) (old new : Seen) (had has : List Given) (d e : Told) (r : Result ℕ JobFault) → Ran MayStart tells w (fresh w.count slots) inputs old new had has d e r → (t : ℕ) → done_of (task_id w.folder w.phase t) (gained old.log new.log) ≤ 1
+ran_once tells w slots inputs old new had has d e r ran t =
+    let m = fresh w.count slots in
+    let entries = ran.front ++ ran.ends in
+    let gains : gained old.log new.log ≡ entries = ap (λ (l : List LogEntry). drop (length old.log) l) ran.log ∙ drop-append_seam old.log entries in
+    let steps : steps_of entries ≡ steps_of ran.front ++ steps_of ran.ends = map-append step_of ran.front ran.ends in
+    let whole : IsRun MayStart m (steps_of ran.front ++ steps_of ran.ends) = IsRunWhere-append MayStart AtAnyTime m (steps_of ran.front) (steps_of ran.ends) (IsRun-from_where MayStart (IsBusy MayStart) m (steps_of ran.front) ran.busy) ran.waited in
+    let run : IsRun MayStart m (steps_of entries) = subst (λ (xs : List Step). IsRun MayStart m xs) (sym steps) whole in
+    subst (λ (l : List LogEntry). done_of (task_id w.folder w.phase t) l ≤ 1) (sym gains) (once_tells w slots entries t ran.of_work run)

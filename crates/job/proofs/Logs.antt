@@ -1,22 +1,23 @@
 -- The log of a job's phases.
-use Rattle.std.proofs.Common.{◌≡◌, ℕ, ◌+◌, ◌*◌, ◌<◌, ◌≤◌, List, [], ◌∷◌, ◌++◌, length, get_or, drop, replicate, cond, Result, Ok, Err, inl, inr, ⊎_elim, refl, sym, ◌∙◌, ap, subst, arith}
+use Rattle.std.proofs.Common.{◌≡◌, ℕ, ◌+◌, ◌*◌, ◌<◌, ◌≤◌, List, [], ◌∷◌, ◌++◌, length, get_or, drop, cond, Result, Ok, Err, inl, inr, refl, sym, ◌∙◌, ap, subst, arith}
 use Rattle.std.specs.Prelude.{IsErrOf}
 use Rattle.std.specs.List.{All}
 use Rattle.std.specs.Result.{IsErrAnd}
 use Rattle.std.proofs.Math.Seq.{drop-append_seam}
-use Rattle.std.proofs.lemmas.Bool.{cases_lt, false≢true}
-use Rattle.std.proofs.lemmas.List.{append-nil, get_or-replicate, get_or_past, length-replicate, map-append}
+use Rattle.std.proofs.lemmas.Bool.{false≢true}
+use Rattle.std.proofs.lemmas.List.{append-nil, map-append}
 use Rattle.std.proofs.lemmas.List.Elements.{All-tail}
 use Rattle.std.proofs.lemmas.List.Sums.{sum_by-cons}
 use Rattle.dir_disk.specs.Children.{Given, Seen}
-use Rattle.dir_disk.specs.Moments.{Told, clock}
+use Rattle.dir_disk.specs.State.{State}
+use Rattle.dir_disk.specs.Moments.{Moment, Told, Through, clock, files}
 use Rattle.dir_disk.specs.declared.site.LogEntry.{LogEntry}
 use Rattle.dir_disk.specs.declared.site.LogEntry.TheVariants.{Started, StartFailed, Ended}
-use Rattle.task_core.specs.declared.task.Task.TheVariants.{Ready, Done, Dead}
 use Rattle.task_core.specs.Log.{IsNumbered, NamesTask, attempts_in, is_attempt}
-use Rattle.task_core.specs.Machine.{Machine, Step, Start, StartFailed as Refuse, Ended as End, NoneDead, task_at, fresh, after, after_all, IsRun, IsBusy, IsBusyRun, AtAnyTime}
-use Rattle.task_core.proofs.Lengths.{names_all, run_ends}
-use Rattle.task_core.proofs.Runs.{IsRunWhere-append, IsRun-from_where}
+use Rattle.task_core.specs.Board.{Board, Rule, IsRule, NoneDead, fresh, after, after_all, IsRun, IsBusy, IsBusyRun, AtAnyTime, Step, Start, Refuse, End}
+use Rattle.task_core.proofs.History.{names_all, few_attempts, IsRun-from_where}
+use Rattle.task_core.proofs.TriedLemmas.{IsRunWhere-append}
+use Rattle.job.proofs.PhaseLemmas.{fresh_none_dead}
 use Rattle.peg_base.specs.Names.{Names}
 use Rattle.peg_base.specs.declared.tasks.Phase.TheVariants.{Map}
 use Rattle.peg_base.specs.declared.tasks.TaskId.{TaskId}
@@ -32,28 +33,27 @@ use Rattle.job.specs.declared.fault.JobFault.{JobFault}
 use Rattle.job.specs.declared.fault.JobFault.TheVariants.{TaskFailed, Disk, NoMemory}
 use Rattle.job.specs.Failing.{gained, is_made, made_in, step_of, steps_of}
 use Rattle.job.specs.Going.{AreAsMany, commits_of, givens_of}
-use Rattle.job.specs.Logged.{IsGivenUp, IsDone, IsDoomed, IfGivenUp, IfTaskFailed, NamesNoTask, PhaseAnswers, PhaseLog, MapLog, StopsIn, reduced_attempts}
+use Rattle.job.specs.Logged.{GoesOn, HadTexts, ReadTexts, IsGivenUp, IsDone, IsDoomed, IfGivenUp, IfTaskFailed, NamesNoTask, PhaseAnswers, PhaseLog, MapLog, StopsIn, reduced_attempts}
 use Rattle.job.specs.Ran.{Answers, Ran, TellsOf}
 use Rattle.job.proofs.Goings.{givens-append}
 use Rattle.job.specs.Faults.{job_fault}
 use Rattle.job.specs.StageFaults.{of_split, of_shuffle}
 use Rattle.job.specs.Output.{Plan, map_inputs}
-use Rattle.job.specs.Work.{Work, work_of}
+use Rattle.job.specs.Work.{Work, text_at, work_of}
 
 pub none_dead : (tasks slots : ℕ) → NoneDead (fresh tasks slots).tasks
-none_dead tasks slots t is =
-    ⊎_elim (λ below. let ready : task_at (replicate tasks (Ready 1)) t ≡ Ready 1 = get_or-replicate tasks t (Ready 1) Done below in let clash : Ready 1 ≡ Dead = sym ready ∙ is in absurd cc) (λ past. let long : length (replicate tasks (Ready 1)) ≡ tasks = length-replicate tasks (Ready 1) in let done : task_at (replicate tasks (Ready 1)) t ≡ Done = get_or_past (replicate tasks (Ready 1)) t Done (omega arith) in let clash : Done ≡ Dead = sym done ∙ is in absurd cc) (cases_lt t tasks)
+none_dead tasks slots = fresh_none_dead tasks slots
 
 -- ---- a phase that was not begun
 
-given_up : (m : Machine) → NoneDead m.tasks → IsGivenUp m []
-given_up m none =
+given_up : (S : Rule) (m : Board) → NoneDead m.tasks → IsGivenUp S m []
+given_up S m none =
     record { front = []; ends = []; parts = refl; busy = tt; none_dead = none; none_made = refl }
 
-not_begun : (w : Work) (slots : ℕ) (fault : JobFault) → NamesNoTask fault → PhaseAnswers w (fresh w.count slots) [] (Err fault)
-not_begun w slots (TaskFailed id) never = absurd never
-not_begun w slots Disk is = given_up (fresh w.count slots) (none_dead w.count slots)
-not_begun w slots NoMemory is = given_up (fresh w.count slots) (none_dead w.count slots)
+not_begun : (S : Rule) (w : Work) (slots : ℕ) (fault : JobFault) → NamesNoTask fault → PhaseAnswers S w (fresh w.count slots) [] (Err fault)
+not_begun S w slots (TaskFailed id) never = absurd never
+not_begun S w slots Disk is = given_up S (fresh w.count slots) (none_dead w.count slots)
+not_begun S w slots NoMemory is = given_up S (fresh w.count slots) (none_dead w.count slots)
 
 told_nothing : (w : Work) (fault : JobFault) → NamesNoTask fault → TellsOf w.folder w.phase w.count [] (Err fault)
 told_nothing w (TaskFailed id) never = absurd never
@@ -68,13 +68,13 @@ no_task_failed T (TaskFailed id) P never = absurd never
 no_task_failed T Disk P is = tt
 no_task_failed T NoMemory P is = tt
 
-stops_at_once : (m : Machine) (began calls : ℕ) (fault : JobFault) → (let result : Result ℕ JobFault = Err fault in IfGivenUp result (λ exact. StopsIn exact m [] began calls))
-stops_at_once m began calls (TaskFailed id) = tt
-stops_at_once m began calls Disk = inl refl
-stops_at_once m began calls NoMemory = inl refl
+stops_at_once : (S : Rule) (m : Board) (began calls : ℕ) (fault : JobFault) → (let result : Result ℕ JobFault = Err fault in IfGivenUp result (λ exact. StopsIn S exact m [] began calls))
+stops_at_once S m began calls (TaskFailed id) = tt
+stops_at_once S m began calls Disk = inl refl
+stops_at_once S m began calls NoMemory = inl refl
 
-pub log_none : (tells : Type 0) (w : Work) (slots : ℕ) (texts : List (List ℕ)) (old new : Seen) (had has : List Given) (e : Told) (fault : JobFault) → new ≡ old → (tells → has ≡ had) → NamesNoTask fault → PhaseLog tells w slots texts old new had has e (Err fault)
-log_none tells w slots texts old new had has e fault same given is =
+pub log_none : (S : Rule) (tells : Type 0) (w : Work) (slots : ℕ) (texts : List (List ℕ)) (old new : Seen) (had has : List Given) (e : Told) (fault : JobFault) → new ≡ old → (tells → has ≡ had) → NamesNoTask fault → PhaseLog S tells w slots texts old new had has e (Err fault)
+log_none S tells w slots texts old new had has e fault same given is =
     record {
       entries = [];
       log = ap (λ (s : Seen). s.log) same ∙ sym (append-nil old.log);
@@ -82,16 +82,17 @@ log_none tells w slots texts old new had has e fault same given is =
       run = tt;
       began = 0;
       givens = λ told. given told ∙ sym (append-nil had);
+      read = λ _. inl refl;
       calls = λ _. no_task_failed ℕ fault (λ id. clock e ≡ 0 + commits_of (fresh w.count slots) []) is;
-      stopped = λ _. stops_at_once (fresh w.count slots) 0 (clock e) fault;
+      stopped = λ _. stops_at_once S (fresh w.count slots) 0 (clock e) fault;
       start_faults = let e : new.start_faults ≡ old.start_faults = ap (λ (s : Seen). s.start_faults) same in omega (arith, e);
-      answer = not_begun w slots fault is;
+      answer = not_begun S w slots fault is;
       told = told_nothing w fault is;
     }
 
 -- ---- a phase that was run
 
-givens_within : (w : Work) (inputs more : ℕ → List ℕ) (n calls : ℕ) (m : Machine) (steps : List Step) → All (NamesTask n) steps → ((t : ℕ) → t < n → inputs t ≡ more t) → givens_of w inputs calls m steps ≡ givens_of w more calls m steps
+givens_within : (w : Work) (inputs more : ℕ → List ℕ) (n calls : ℕ) (m : Board) (steps : List Step) → All (NamesTask n) steps → ((t : ℕ) → t < n → inputs t ≡ more t) → givens_of w inputs calls m steps ≡ givens_of w more calls m steps
 givens_within w inputs more n calls m [] named same = refl
 givens_within w inputs more n calls m (Start t a ∷ steps) named same =
     let first : IsNumbered n t a = named 0 (Start t a) (omega arith) in
@@ -103,7 +104,7 @@ givens_within w inputs more n calls m (End t a status ∷ steps) named same =
     givens_within w inputs more n (calls + commits_of m (End t a status ∷ [])) (after m (End t a status)) steps (All-tail (NamesTask n) (End t a status) steps named) same
 
 -- where no attempt was made nothing was given
-none_given : (w : Work) (inputs : ℕ → List ℕ) (calls : ℕ) (m : Machine) (ends : List LogEntry) → made_in ends ≡ 0 → givens_of w inputs calls m (steps_of ends) ≡ []
+none_given : (w : Work) (inputs : ℕ → List ℕ) (calls : ℕ) (m : Board) (ends : List LogEntry) → made_in ends ≡ 0 → givens_of w inputs calls m (steps_of ends) ≡ []
 none_given w inputs calls m [] none = refl
 none_given w inputs calls m (Started attempt ∷ ends) none =
     absurd (omega (arith, sum_by-cons (λ (y : LogEntry). cond (is_made y) 1 0) (Started attempt) ends, none))
@@ -114,7 +115,7 @@ none_given w inputs calls m (Ended attempt status ∷ ends) none =
     none_given w inputs (calls + commits_of m (here ∷ [])) (after m here) ends (omega (arith, sum_by-cons (λ (y : LogEntry). cond (is_made y) 1 0) (Ended attempt status) ends, none))
 
 -- what was given before a refusal is all that was given
-all_given : (w : Work) (inputs : ℕ → List ℕ) (calls : ℕ) (m : Machine) (front ends : List LogEntry) → made_in ends ≡ 0 → givens_of w inputs calls m (steps_of front) ≡ givens_of w inputs calls m (steps_of (front ++ ends))
+all_given : (w : Work) (inputs : ℕ → List ℕ) (calls : ℕ) (m : Board) (front ends : List LogEntry) → made_in ends ≡ 0 → givens_of w inputs calls m (steps_of front) ≡ givens_of w inputs calls m (steps_of (front ++ ends))
 all_given w inputs calls m front ends none =
     let late = calls + commits_of m (steps_of front) in
     let reached = after_all m (steps_of front) in
@@ -122,7 +123,7 @@ all_given w inputs calls m front ends none =
     sym (ap (λ (xs : List Step). givens_of w inputs calls m xs) (map-append step_of front ends) ∙ givens-append w inputs calls m (steps_of front) (steps_of ends) ∙ ap (λ (gs : List Given). before ++ gs) (none_given w inputs late reached ends none) ∙ append-nil before)
 
 -- a phase with a dead task made one call for each commit
-calls_told : (w : Work) (m k : Machine) (front ends : List LogEntry) (d e : Told) (result : Result ℕ JobFault) → Answers w k front ends result → AreAsMany (IsErrOf result NoMemory → ⊥) (clock e) (clock d + commits_of m (steps_of front)) → IfTaskFailed result (λ id. clock e ≡ clock d + commits_of m (steps_of (front ++ ends)))
+calls_told : (w : Work) (m k : Board) (front ends : List LogEntry) (d e : Told) (result : Result ℕ JobFault) → Answers w k front ends result → AreAsMany (IsErrOf result NoMemory → ⊥) (clock e) (clock d + commits_of m (steps_of front)) → IfTaskFailed result (λ id. clock e ≡ clock d + commits_of m (steps_of (front ++ ends)))
 calls_told w m k front ends d e (Ok made) answer calls = tt
 calls_told w m k front ends d e (Err (TaskFailed id)) (named, least, nothing) calls =
     let same : front ≡ front ++ ends = sym (ap (λ (xs : List LogEntry). front ++ xs) nothing ∙ append-nil front) in
@@ -132,15 +133,15 @@ calls_told w m k front ends d e (Err Disk) answer calls = tt
 calls_told w m k front ends d e (Err NoMemory) answer calls = tt
 
 -- a phase that was given up made one call for each commit before that
-stops_told : (w : Work) (m : Machine) (front ends : List LogEntry) (d e : Told) (result : Result ℕ JobFault) → IsBusyRun m (steps_of front) → made_in ends ≡ 0 → Answers w (after_all m (steps_of front)) front ends result → AreAsMany (IsErrOf result NoMemory → ⊥) (clock e) (clock d + commits_of m (steps_of front)) → IfGivenUp result (λ exact. StopsIn exact m (front ++ ends) (clock d) (clock e))
-stops_told w m front ends d e (Ok made) busy none answer calls = tt
-stops_told w m front ends d e (Err (TaskFailed id)) busy none answer calls = tt
-stops_told w m front ends d e (Err Disk) busy none alive calls =
-    let given_up : IsGivenUp m (front ++ ends) = record { front = front; ends = ends; parts = refl; busy = busy; none_dead = alive; none_made = none } in
+stops_told : (S : Rule) (w : Work) (m : Board) (front ends : List LogEntry) (d e : Told) (result : Result ℕ JobFault) → IsBusyRun S m (steps_of front) → made_in ends ≡ 0 → Answers w (after_all m (steps_of front)) front ends result → AreAsMany (IsErrOf result NoMemory → ⊥) (clock e) (clock d + commits_of m (steps_of front)) → IfGivenUp result (λ exact. StopsIn S exact m (front ++ ends) (clock d) (clock e))
+stops_told S w m front ends d e (Ok made) busy none answer calls = tt
+stops_told S w m front ends d e (Err (TaskFailed id)) busy none answer calls = tt
+stops_told S w m front ends d e (Err Disk) busy none alive calls =
+    let given_up : IsGivenUp S m (front ++ ends) = record { front = front; ends = ends; parts = refl; busy = busy; none_dead = alive; none_made = none } in
     let exact : clock e ≡ clock d + commits_of m (steps_of front) = calls.exact (λ memory. cc) in
     inr (record { given_up = given_up; spent = record { most = calls.most; exact = λ _. exact } })
-stops_told w m front ends d e (Err NoMemory) busy none alive calls =
-    let given_up : IsGivenUp m (front ++ ends) = record { front = front; ends = ends; parts = refl; busy = busy; none_dead = alive; none_made = none } in
+stops_told S w m front ends d e (Err NoMemory) busy none alive calls =
+    let given_up : IsGivenUp S m (front ++ ends) = record { front = front; ends = ends; parts = refl; busy = busy; none_dead = alive; none_made = none } in
     inr (record { given_up = given_up; spent = record { most = calls.most; exact = λ is. absurd (false≢true is) } })
 
 pub made_is : (entries : List LogEntry) → made_in entries ≡ attempts_in (steps_of entries)
@@ -153,30 +154,64 @@ made_is (x ∷ entries) =
     made_more (StartFailed attempt) one other rest = omega (arith, one, other, rest)
     made_more (Ended attempt status) one other rest = omega (arith, one, other, rest)
 
--- the entries of a run that was answered so
-answered : (w : Work) (m : Machine) (front ends : List LogEntry) (result : Result ℕ JobFault) → IsBusyRun m (steps_of front) → made_in ends ≡ 0 → Answers w (after_all m (steps_of front)) front ends result → PhaseAnswers w m (front ++ ends) result
-answered w m front ends (Ok made) busy none (all, is, nothing) =
+-- the entries of a run that was answered S so
+answered : (S : Rule) (w : Work) (m : Board) (front ends : List LogEntry) (result : Result ℕ JobFault) → IsBusyRun S m (steps_of front) → made_in ends ≡ 0 → Answers w (after_all m (steps_of front)) front ends result → PhaseAnswers S w m (front ++ ends) result
+answered S w m front ends (Ok made) busy none (all, is, nothing) =
     let same : front ++ ends ≡ front = ap (λ (xs : List LogEntry). front ++ xs) nothing ∙ append-nil front in
-    subst (λ (xs : List LogEntry). IsDone m xs × (made ≡ made_in xs)) (sym same) (record { busy = busy; all_done = all }, is)
-answered w m front ends (Err (TaskFailed id)) busy none (named, least, nothing) =
+    subst (λ (xs : List LogEntry). IsDone S m xs × (made ≡ made_in xs)) (sym same) (record { busy = busy; all_done = all }, is)
+answered S w m front ends (Err (TaskFailed id)) busy none (named, least, nothing) =
     let same : front ++ ends ≡ front = ap (λ (xs : List LogEntry). front ++ xs) nothing ∙ append-nil front in
-    subst (λ (xs : List LogEntry). IsDoomed w m xs id) (sym same) (record { busy = busy; named = named; least_dead = least })
-answered w m front ends (Err Disk) busy none alive =
+    subst (λ (xs : List LogEntry). IsDoomed S w m xs id) (sym same) (record { busy = busy; named = named; least_dead = least })
+answered S w m front ends (Err Disk) busy none alive =
     record { front = front; ends = ends; parts = refl; busy = busy; none_dead = alive; none_made = none }
-answered w m front ends (Err NoMemory) busy none alive =
+answered S w m front ends (Err NoMemory) busy none alive =
     record { front = front; ends = ends; parts = refl; busy = busy; none_dead = alive; none_made = none }
 
 pub gained_is : (old new : Seen) (entries : List LogEntry) → new.log ≡ old.log ++ entries → gained old.log new.log ≡ entries
 gained_is old new entries log =
     ap (λ (xs : List LogEntry). drop (length old.log) xs) log ∙ drop-append_seam old.log entries
 
+pub goes_on : {Step : State → State → Type 0} (d e : Told) → Through Step d e → GoesOn d e
+goes_on d e steps = record { later = steps.later; past = steps.past }
+
+pub goes_on_then : (d e f : Told) → GoesOn d e → GoesOn e f → GoesOn d f
+goes_on_then d e f one other =
+    record {
+      later = omega (arith, one.later, other.later);
+      past = λ moment before. other.past moment (omega (arith, before, one.later)) ∙ one.past moment before;
+    }
+
+pub goes_on_none : (d : Told) → GoesOn d d
+goes_on_none d = record { later = omega arith; past = λ moment before. refl }
+
+had_texts : (w : Work) (inputs : ℕ → List ℕ) (texts : List (List ℕ)) (d e : Told) → inputs ≡ text_at w (files d) → GoesOn d e → ((t : ℕ) → t < w.count → inputs t ≡ get_or texts t []) → HadTexts w texts (clock d) e
+had_texts w inputs texts d e inputs_are on texts_are =
+    let same : e.at d.count ≡ d.at d.count = on.past d.count (omega arith) in
+    record {
+      moment = d.count;
+      past = on.later;
+      calls = ap (λ (m : Moment). m.calls) same;
+      each = λ t below. ap (λ (m : Moment). text_at w m.state t) same ∙ sym (ap (λ (F : ℕ → List ℕ). F t) inputs_are) ∙ texts_are t below;
+    }
+
+pub read_later : (w : Work) (texts : List (List ℕ)) (began : ℕ) (entries : List LogEntry) (d e : Told) → GoesOn d e → ReadTexts w texts began entries d → ReadTexts w texts began entries e
+read_later w texts began entries d e on (inl none) = inl none
+read_later w texts began entries d e on (inr had) =
+    let same : e.at had.moment ≡ d.at had.moment = on.past had.moment had.past in
+    inr (record {
+      moment = had.moment;
+      past = omega (arith, had.past, on.later);
+      calls = ap (λ (m : Moment). m.calls) same ∙ had.calls;
+      each = λ t below. ap (λ (m : Moment). text_at w m.state t) same ∙ had.each t below;
+    })
+
 -- the phase began where `seen` was as at entry
-pub log_ran : (tells : Type 0) (w : Work) (slots : ℕ) (inputs : ℕ → List ℕ) (texts : List (List ℕ)) (a b c : Seen) (had has have : List Given) (d e : Told) (result : Result ℕ JobFault) → b ≡ a → (tells → has ≡ had) → (tells → (t : ℕ) → t < w.count → inputs t ≡ get_or texts t []) → Ran tells w slots inputs b c has have d e result → TellsOf w.folder w.phase w.count (gained b.log c.log) result → PhaseLog tells w slots texts a c had have e result
-log_ran tells w slots inputs texts a b c had has have d e result same given texts_are ran told =
+pub log_ran : (S : Rule) → IsRule S → (tells : Type 0) (w : Work) (slots : ℕ) (inputs : ℕ → List ℕ) (texts : List (List ℕ)) (a b c : Seen) (had has have : List Given) (d e : Told) (result : Result ℕ JobFault) → b ≡ a → (tells → has ≡ had) → (tells → GoesOn d e) → (inputs ≡ text_at w (files d)) → (tells → (t : ℕ) → t < w.count → inputs t ≡ get_or texts t []) → Ran S tells w (fresh w.count slots) inputs b c has have d e result → TellsOf w.folder w.phase w.count (gained b.log c.log) result → PhaseLog S tells w slots texts a c had have e result
+log_ran S rule tells w slots inputs texts a b c had has have d e result same given on inputs_are texts_are ran told =
     let entries = ran.front ++ ran.ends in
     let steps : steps_of entries ≡ steps_of ran.front ++ steps_of ran.ends = map-append step_of ran.front ran.ends in
-    let run : IsRun (fresh w.count slots) (steps_of entries) = subst (λ (xs : List Step). IsRun (fresh w.count slots) xs) (sym steps) (IsRunWhere-append AtAnyTime (fresh w.count slots) (steps_of ran.front) (steps_of ran.ends) (IsRun-from_where IsBusy (fresh w.count slots) (steps_of ran.front) ran.busy) ran.waited) in
-    let named : All (NamesTask w.count) (steps_of entries) = names_all AtAnyTime w.count slots (steps_of entries) run in
+    let run : IsRun S (fresh w.count slots) (steps_of entries) = subst (λ (xs : List Step). IsRun S (fresh w.count slots) xs) (sym steps) (IsRunWhere-append S AtAnyTime (fresh w.count slots) (steps_of ran.front) (steps_of ran.ends) (IsRun-from_where S (IsBusy S) (fresh w.count slots) (steps_of ran.front) ran.busy) ran.waited) in
+    let named : All (NamesTask w.count) (steps_of entries) = names_all S rule AtAnyTime w.count slots (steps_of entries) run in
     record {
       entries = entries;
       log = ran.log ∙ ap (λ (s : Seen). s.log ++ entries) same;
@@ -184,33 +219,34 @@ log_ran tells w slots inputs texts a b c had has have d e result same given text
       run = run;
       began = clock d;
       givens = λ tell. ran.givens tell ∙ ap (λ (gs : List Given). gs ++ givens_of w inputs (clock d) (fresh w.count slots) (steps_of ran.front)) (given tell) ∙ ap (λ (gs : List Given). had ++ gs) (all_given w inputs (clock d) (fresh w.count slots) ran.front ran.ends ran.none_made ∙ givens_within w inputs (λ t. get_or texts t []) w.count (clock d) (fresh w.count slots) (steps_of entries) named (texts_are tell));
+      read = λ tell. inr (had_texts w inputs texts d e inputs_are (on tell) (texts_are tell));
       calls = λ tell. calls_told w (fresh w.count slots) (after_all (fresh w.count slots) (steps_of ran.front)) ran.front ran.ends d e result ran.answer (ran.calls tell);
-      stopped = λ tell. stops_told w (fresh w.count slots) ran.front ran.ends d e result ran.busy ran.none_made ran.answer (ran.calls tell);
+      stopped = λ tell. stops_told S w (fresh w.count slots) ran.front ran.ends d e result ran.busy ran.none_made ran.answer (ran.calls tell);
       start_faults = let e : b.start_faults ≡ a.start_faults = ap (λ (s : Seen). s.start_faults) same in omega (arith, e, ran.start_faults);
-      answer = answered w (fresh w.count slots) ran.front ran.ends result ran.busy ran.none_made ran.answer;
+      answer = answered S w (fresh w.count slots) ran.front ran.ends result ran.busy ran.none_made ran.answer;
       told = subst (λ (xs : List LogEntry). TellsOf w.folder w.phase w.count xs result) (gained_is b c entries ran.log) told;
     }
 
 -- a phase makes at most four attempts of each task
-pub few_made : (tells : Type 0) (w : Work) (slots : ℕ) (inputs : ℕ → List ℕ) (old new : Seen) (had has : List Given) (d e : Told) (made : ℕ) → Ran tells w slots inputs old new had has d e (Ok made) → made ≤ 4 * w.count
-few_made tells w slots inputs old new had has d e made ran =
-    let few = (run_ends IsBusy w.count slots (steps_of ran.front) ran.busy).0 in
+pub few_made : (S : Rule) → IsRule S → (tells : Type 0) (w : Work) (slots : ℕ) (inputs : ℕ → List ℕ) (old new : Seen) (had has : List Given) (d e : Told) (made : ℕ) → Ran S tells w (fresh w.count slots) inputs old new had has d e (Ok made) → made ≤ 4 * w.count
+few_made S rule tells w slots inputs old new had has d e made ran =
+    let few = few_attempts S rule (IsBusy S) w.count slots (steps_of ran.front) ran.busy in
     let is : made ≡ made_in ran.front = ran.answer.1 in
     omega (arith, few, is, made_is ran.front)
 
 -- ---- the map stage
 
 -- it was refused before its phase
-pub map_log_none : (tells : Type 0) (folder : Names) (plan : Plan) (slots : ℕ) (old new : Seen) (had has : List Given) (e : Told) (fault : JobFault) (result : Result Mapped JobFault) → result ≡ Err fault → NamesNoTask fault → new ≡ old → (tells → has ≡ had) → MapLog tells folder plan slots old new had has e result
-map_log_none tells folder plan slots old new had has e fault result is of_commit same given =
-    let none : MapLog tells folder plan slots old new had has e (Err fault) = record { count = length (map_inputs plan); counted = λ told. refl; tasks = tt; phase = log_none tells (work_of folder Map plan.map_words (length (map_inputs plan))) slots (map_inputs plan) old new had has e fault same given of_commit } in
-    subst (λ (r : Result Mapped JobFault). MapLog tells folder plan slots old new had has e r) (sym is) none
+pub map_log_none : (S : Rule) (tells : Type 0) (folder : Names) (plan : Plan) (slots : ℕ) (old new : Seen) (had has : List Given) (e : Told) (fault : JobFault) (result : Result Mapped JobFault) → result ≡ Err fault → NamesNoTask fault → new ≡ old → (tells → has ≡ had) → MapLog S tells folder plan slots old new had has e result
+map_log_none S tells folder plan slots old new had has e fault result is of_commit same given =
+    let none : MapLog S tells folder plan slots old new had has e (Err fault) = record { count = length (map_inputs plan); counted = λ told. refl; tasks = tt; phase = log_none S tells (work_of folder Map plan.map_words (length (map_inputs plan))) slots (map_inputs plan) old new had has e fault same given of_commit } in
+    subst (λ (r : Result Mapped JobFault). MapLog S tells folder plan slots old new had has e r) (sym is) none
 
 -- it was refused in its phase
-pub map_log_failed : (tells : Type 0) (folder : Names) (plan : Plan) (slots count : ℕ) (old new : Seen) (had has : List Given) (e : Told) (fault : JobFault) (result : Result Mapped JobFault) → result ≡ Err fault → (tells → count ≡ length (map_inputs plan)) → PhaseLog tells (work_of folder Map plan.map_words count) slots (map_inputs plan) old new had has e (Err fault) → MapLog tells folder plan slots old new had has e result
-map_log_failed tells folder plan slots count old new had has e fault result is counted phase =
-    let failed : MapLog tells folder plan slots old new had has e (Err fault) = record { count = count; counted = counted; tasks = tt; phase = phase } in
-    subst (λ (r : Result Mapped JobFault). MapLog tells folder plan slots old new had has e r) (sym is) failed
+pub map_log_failed : (S : Rule) (tells : Type 0) (folder : Names) (plan : Plan) (slots count : ℕ) (old new : Seen) (had has : List Given) (e : Told) (fault : JobFault) (result : Result Mapped JobFault) → result ≡ Err fault → (tells → count ≡ length (map_inputs plan)) → PhaseLog S tells (work_of folder Map plan.map_words count) slots (map_inputs plan) old new had has e (Err fault) → MapLog S tells folder plan slots old new had has e result
+map_log_failed S tells folder plan slots count old new had has e fault result is counted phase =
+    let failed : MapLog S tells folder plan slots old new had has e (Err fault) = record { count = count; counted = counted; tasks = tt; phase = phase } in
+    subst (λ (r : Result Mapped JobFault). MapLog S tells folder plan slots old new had has e r) (sym is) failed
 
 pub of_committer : (fault : CommitFault) → NamesNoTask (job_fault fault)
 of_committer CommitDisk = tt
@@ -232,6 +268,6 @@ err_is (Err e) fault is = ap Err is
 -- ---- the reduce stage
 
 -- it was refused, before its phase or in it
-pub reduce_log_failed : (tells : Type 0) (w : Work) (slots : ℕ) (texts : List (List ℕ)) (old new : Seen) (had has : List Given) (e : Told) (fault : JobFault) (result : Result Reduced JobFault) → result ≡ Err fault → PhaseLog tells w slots texts old new had has e (Err fault) → PhaseLog tells w slots texts old new had has e (reduced_attempts result)
-reduce_log_failed tells w slots texts old new had has e fault result is phase =
-    subst (λ (r : Result Reduced JobFault). PhaseLog tells w slots texts old new had has e (reduced_attempts r)) (sym is) phase
+pub reduce_log_failed : (S : Rule) (tells : Type 0) (w : Work) (slots : ℕ) (texts : List (List ℕ)) (old new : Seen) (had has : List Given) (e : Told) (fault : JobFault) (result : Result Reduced JobFault) → result ≡ Err fault → PhaseLog S tells w slots texts old new had has e (Err fault) → PhaseLog S tells w slots texts old new had has e (reduced_attempts result)
+reduce_log_failed S tells w slots texts old new had has e fault result is phase =
+    subst (λ (r : Result Reduced JobFault). PhaseLog S tells w slots texts old new had has e (reduced_attempts r)) (sym is) phase

@@ -1,50 +1,42 @@
 -- How the log, what was given and the directory go on with the steps of the machine.
-use Rattle.std.specs.Prelude.{◌≡◌, ℕ, ◌+◌, ◌≤◌, Bool, true, false, ◌&&◌, ◌||◌, not, if◌then◌else◌, List, [], ◌∷◌, ◌++◌, Result, IsErrOf}
+use Rattle.std.specs.Prelude.{◌≡◌, ℕ, ◌+◌, ◌≤◌, Bool, false, ◌&&◌, ◌||◌, not, if◌then◌else◌, List, [], ◌∷◌, ◌++◌, Result, IsErrOf}
 use Rattle.std.specs.List.{AllByRecursion}
 use Rattle.dir_disk.specs.Moments.{Told, clock, files}
 use Rattle.dir_disk.specs.Children.{Given, Seen}
 use Rattle.dir_disk.specs.declared.site.LogEntry.{LogEntry}
 use Rattle.committer.specs.declared.fault.CommitFault.{CommitFault}
 use Rattle.committer.specs.declared.fault.CommitFault.TheVariants.{NoMemory}
-use Rattle.task_core.specs.declared.task.Task.{Task}
-use Rattle.task_core.specs.declared.task.Task.TheVariants.{Ready, Running, Done, Dead}
-use Rattle.task_core.specs.Machine.{Machine, Step, Start, StartFailed, Ended, is_success, after, after_all, IsRunWhere, IsBusy, AtAnyTime}
+use Rattle.task_core.specs.Board.{Board, Rule, Tried, tried_at, is_dead, becomes_done, after, after_all, IsRunWhere, IsBusy, AtAnyTime, Step, Start, Refuse, End, is_success}
 use Rattle.job.specs.Work.{Work, Keeps, text_at}
 use Rattle.job.specs.Failing.{IsEntryOf, steps_of, made_in}
-use Rattle.job.specs.Children.{Fits}
+use Rattle.job.specs.Children.{AreChildrenOf}
 
 -- ---- commits
 
-abbrev pub is_dead : Task → Bool
-is_dead (Ready a) = false
-is_dead (Running a) = false
-is_dead Done = false
-is_dead Dead = true
-
 -- some task is dead
-abbrev pub has_dead : List Task → Bool
+abbrev pub has_dead : List Tried → Bool
 has_dead [] = false
 has_dead (task ∷ tasks) = is_dead task || has_dead tasks
 
--- the attempt that ends at this step is to be committed: it succeeded, and no task is dead then
-abbrev pub is_commit : Machine → Step → Bool
+-- the attempt that ends at this step is to be committed: its task becomes done by it, and no task is dead then
+abbrev pub is_commit : Board → Step → Bool
 is_commit m (Start t a) = false
-is_commit m (StartFailed t a) = false
-is_commit m (Ended t a status) = is_success status && not (has_dead (after m (Ended t a status)).tasks)
+is_commit m (Refuse t a) = false
+is_commit m (End t a status) = becomes_done (tried_at m.tasks t) (is_success status) && not (has_dead (after m (End t a status)).tasks)
 
 -- how many attempts are to be committed
-abbrev pub commits_of : Machine → List Step → ℕ
+abbrev pub commits_of : Board → List Step → ℕ
 commits_of m [] = 0
 commits_of m (x ∷ xs) = (if is_commit m x then 1 else 0) + commits_of (after m x) xs
 
 -- ---- what is given
 
 -- what these steps give, where so many calls of the directory were made before them: at each start the words, the input of its task, and the number of calls before it, one more for each commit
-abbrev pub givens_of : Work → (ℕ → List ℕ) → ℕ → Machine → List Step → List Given
+abbrev pub givens_of : Work → (ℕ → List ℕ) → ℕ → Board → List Step → List Given
 givens_of w inputs calls m [] = []
 givens_of w inputs calls m (Start t a ∷ steps) = record { words = w.words; input = inputs t; moment = calls } ∷ givens_of w inputs calls (after m (Start t a)) steps
-givens_of w inputs calls m (StartFailed t a ∷ steps) = record { words = w.words; input = inputs t; moment = calls } ∷ givens_of w inputs calls (after m (StartFailed t a)) steps
-givens_of w inputs calls m (Ended t a status ∷ steps) = givens_of w inputs (calls + commits_of m (Ended t a status ∷ [])) (after m (Ended t a status)) steps
+givens_of w inputs calls m (Refuse t a ∷ steps) = record { words = w.words; input = inputs t; moment = calls } ∷ givens_of w inputs calls (after m (Refuse t a)) steps
+givens_of w inputs calls m (End t a status ∷ steps) = givens_of w inputs (calls + commits_of m (End t a status ∷ [])) (after m (End t a status)) steps
 
 -- ---- what a call of a phase does
 
@@ -54,17 +46,17 @@ pub data Mode : Type 0 where
   Waiting : Mode
 
 -- where ends are taken
-abbrev pub MayEndIn : Mode → Machine → Type 0
-MayEndIn Working = IsBusy
-MayEndIn Waiting = AtAnyTime
+abbrev pub MayEndIn : Rule → Mode → Board → Type 0
+MayEndIn S Working = IsBusy S
+MayEndIn S Waiting = AtAnyTime
 
 -- how many calls of the directory these steps are
-abbrev pub calls_of : Mode → Machine → List Step → ℕ
+abbrev pub calls_of : Mode → Board → List Step → ℕ
 calls_of Working m steps = commits_of m steps
 calls_of Waiting m steps = 0
 
 -- what these steps give
-abbrev pub givens_in : Mode → Work → (ℕ → List ℕ) → ℕ → Machine → List Step → List Given
+abbrev pub givens_in : Mode → Work → (ℕ → List ℕ) → ℕ → Board → List Step → List Given
 givens_in Working w inputs calls m steps = givens_of w inputs calls m steps
 givens_in Waiting w inputs calls m steps = []
 
@@ -82,10 +74,10 @@ abbrev pub IsExact : {T : Type 0} → Result T CommitFault → Type 0
 IsExact result = IsErrOf result NoMemory → ⊥
 
 -- from one state of the machine to another by entries that the log gains, and what is given by them, where so many calls of the directory were made before
-pub record Goes (mode : Mode) (tells : Type 0) (w : Work) (inputs : ℕ → List ℕ) (calls : ℕ) (m n : Machine) (old new : Seen) (had has : List Given) : Type 0 where
+pub record Goes (S : Rule) (mode : Mode) (tells : Type 0) (w : Work) (inputs : ℕ → List ℕ) (calls : ℕ) (m n : Board) (old new : Seen) (had has : List Given) : Type 0 where
   pub entries : List LogEntry
   pub of_work : AllByRecursion (IsEntryOf w) entries
-  pub run : IsRunWhere (MayEndIn mode) m (steps_of entries)
+  pub run : IsRunWhere S (MayEndIn S mode) m (steps_of entries)
   pub reached : n ≡ after_all m (steps_of entries)
   pub made : MayMakeIn mode entries
   pub log : new.log ≡ old.log ++ entries
@@ -93,8 +85,8 @@ pub record Goes (mode : Mode) (tells : Type 0) (w : Work) (inputs : ℕ → List
   pub start_faults : old.start_faults ≤ new.start_faults
 
 -- what a call of a phase does: the machine, the log and the children go on together, all around stands, and no call of the directory is made but the commits, each of them where P holds
-pub record Turn (mode : Mode) (P : Type 0) (tells : Type 0) (w : Work) (m n : Machine) (old new : Seen) (had has : List Given) (d e : Told) : Type 0 where
-  pub fits : Fits w n new.running
-  pub goes : Goes mode tells w (text_at w (files d)) (clock d) m n old new had has
+pub record Turn (S : Rule) (mode : Mode) (P : Type 0) (tells : Type 0) (w : Work) (m n : Board) (old new : Seen) (had has : List Given) (d e : Told) : Type 0 where
+  pub fits : AreChildrenOf w n new.running
+  pub goes : Goes S mode tells w (text_at w (files d)) (clock d) m n old new had has
   pub keeps : tells → Keeps w d e
   pub calls : tells → AreAsMany P (clock e) (clock d + calls_of mode m (steps_of goes.entries))

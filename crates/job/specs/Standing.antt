@@ -1,14 +1,12 @@
 -- What the directory has for the tasks of a phase, by what the machine knows of them.
-use Rattle.std.specs.Prelude.{◌≡◌, ◌≢◌, ℕ, ◌+◌, ◌<◌, ◌≤◌, true, false, List, None, Some}
+use Rattle.std.specs.Prelude.{◌≡◌, ◌≢◌, ℕ, ◌<◌, ◌≤◌, true, false, List, None, Some}
 use Rattle.std.specs.List.{AllByRecursion}
 use Rattle.peg_base.specs.Names.{Names, under, same_path}
 use Rattle.dir_disk.specs.State.{State}
 use Rattle.dir_disk.specs.Calls.{IsOpen}
 use Rattle.dir_disk.specs.Children.{Child, CanStart}
 use Rattle.committer.specs.Commits.{HasNoFile}
-use Rattle.task_core.specs.declared.task.Task.{Task}
-use Rattle.task_core.specs.declared.task.Task.TheVariants.{Ready, Running, Done, Dead}
-use Rattle.task_core.specs.Machine.{Machine, task_at}
+use Rattle.task_core.specs.Board.{Board, Tried, Open, Finished, tried_at}
 use Rattle.job.specs.Work.{Work, IsAttempt, input_at, folder_at, output_at, home_at, result_at, text_at}
 use Rattle.job.specs.Children.{task_no}
 
@@ -33,28 +31,31 @@ pub record IsMade (w : Work) (gives : List (List ℕ) → List ℕ → List ℕ)
   pub output : (state (result_at w t)).now ≡ Some (gives w.words (text_at w entry t))
   pub alone : HasOnly (home_at w t) (result_at w t) state
 
+-- what was in the folder of attempt a is in that of task t, and no other file is there
+pub record IsMoved (w : Work) (t a : ℕ) (before after : State) : Type 0 where
+  pub output : (after (result_at w t)).now ≡ (before (output_at w t a)).now
+  pub alone : HasOnly (home_at w t) (result_at w t) after
+
 abbrev pub AllMade : Work → (List (List ℕ) → List ℕ → List ℕ) → State → State → Type 0
 AllMade w gives entry state = (t : ℕ) → t < w.count → IsMade w gives entry state t
 
 -- what the directory has for task t
-abbrev pub TaskStands : Work → (List (List ℕ) → List ℕ → List ℕ) → State → ℕ → Task → Type 0
-TaskStands w gives state t (Ready a) = IsOpenFrom w state t a
-TaskStands w gives state t (Running a) = IsOpenFrom w state t (a + 1)
-TaskStands w gives state t Done = IsMade w gives state state t
-TaskStands w gives state t Dead = Unit {0}
+abbrev pub TaskStands : Work → (List (List ℕ) → List ℕ → List ℕ) → State → ℕ → Tried → Type 0
+TaskStands w gives state t (Open next running) = IsOpenFrom w state t next
+TaskStands w gives state t (Finished running) = IsMade w gives state state t
 
 -- each child was given what its task's input has
 abbrev pub AreFed : Work → State → List Child → Type 0
 AreFed w state running = AllByRecursion (λ child. child.given ≡ text_at w state (task_no child)) running
 
--- what the directory has for all tasks and children
-pub record Stands (w : Work) (gives : List (List ℕ) → List ℕ → List ℕ) (state : State) (m : Machine) (running : List Child) : Type 0 where
-  pub tasks : (t : ℕ) → t < w.count → TaskStands w gives state t (task_at m.tasks t)
+-- the directory has what all tasks and children need
+pub record HasWork (w : Work) (gives : List (List ℕ) → List ℕ → List ℕ) (state : State) (m : Board) (running : List Child) : Type 0 where
+  pub tasks : (t : ℕ) → t < w.count → TaskStands w gives state t (tried_at m.tasks t)
   pub fed : AreFed w state running
 
 -- the same, but that the output of task t, which is done, is still where its attempt a wrote it
-pub record Delivers (w : Work) (gives : List (List ℕ) → List ℕ → List ℕ) (state : State) (m : Machine) (running : List Child) (t a : ℕ) : Type 0 where
-  pub others : (u : ℕ) → u < w.count → u ≢ t → TaskStands w gives state u (task_at m.tasks u)
+pub record Delivers (w : Work) (gives : List (List ℕ) → List ℕ → List ℕ) (state : State) (m : Board) (running : List Child) (t a : ℕ) : Type 0 where
+  pub others : (u : ℕ) → u < w.count → u ≢ t → TaskStands w gives state u (tried_at m.tasks u)
   pub fed : AreFed w state running
   pub rest : IsOpenFrom w state t 5
   pub output : (state (output_at w t a)).now ≡ Some (gives w.words (text_at w state t))

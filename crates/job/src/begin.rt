@@ -1,25 +1,25 @@
 ghost use Rattle.std.specs.Prelude.{◌≡◌, OnErr, OnOk};
 ghost use Rattle.dir_disk.specs.Moments.{files};
-ghost use Rattle.task_core.specs.Machine.{MayStart};
 ghost use Rattle.job.specs.Work.{input_at, output_at};
-ghost use Rattle.job.specs.Children.{Fits};
-ghost use Rattle.job.specs.Standing.{Stands};
+ghost use Rattle.job.specs.Children.{AreChildrenOf};
+ghost use Rattle.job.specs.Standing.{HasWork};
 ghost use Rattle.job.specs.Going.{Turn, Working};
 ghost use Rattle.job.specs.Turned.{Moves};
 
+use crate::delivery::Delivery;
 use crate::tasks::Tasks;
 use dir_disk::{Site, StartFault};
 use peg_base::{Attempt, Path};
 use peg_text::NoMemory;
 use std::alloc::Global;
-use task_core::Attempts;
+use task_core::Attempting;
 
 /// Starts the child of an attempt, and takes down that it runs or was refused.
-pub(crate) fn start_child<S: Site>(
+pub(crate) fn start_child<S: Site, A: Attempting, V: Delivery>(
     alloc: Global,
     site: &mut S,
-    tasks: &Tasks,
-    attempts: &mut Attempts,
+    tasks: &Tasks<V>,
+    attempts: &mut A,
     attempt: &Attempt,
     input: &Path,
     output: &Path,
@@ -28,15 +28,17 @@ pub(crate) fn start_child<S: Site>(
     requires phase { attempt.now.task.phase ≡ tasks.now.phase }
     requires input { input.now ≡ input_at tasks.now attempt.now.task.task }
     requires output { output.now ≡ output_at tasks.now attempt.now.task.task attempt.now.number }
-    requires may { MayStart attempts.old attempt.now.task.task attempt.now.number }
-    requires fits { Fits tasks.now attempts.old (S.seen site.old).running }
+    requires may { A.may (A.board attempts.old) attempt.now.task.task attempt.now.number }
+    requires fits { AreChildrenOf tasks.now (A.board attempts.old) (S.seen site.old).running }
     requires stands { S.tells
-        → Stands tasks.now S.gives (files (S.told site.old)) attempts.old (S.seen site.old).running }
-    ensures turn { Turn Working (Unit {0}) S.tells tasks.now attempts.old attempts.new (S.seen site.old) (S.seen site.new)
+        → HasWork tasks.now S.gives (files (S.told site.old)) (A.board attempts.old) (S.seen site.old).running }
+    ensures turn { Turn A.may Working (Unit {0}) S.tells tasks.now
+        (A.board attempts.old) (A.board attempts.new) (S.seen site.old) (S.seen site.new)
         (S.given site.old) (S.given site.new) (S.told site.old) (S.told site.new) }
     ensures stands { S.tells
-        → Stands tasks.now S.gives (files (S.told site.new)) attempts.new (S.seen site.new).running }
-    ensures moves { OnOk result (Moves 1 attempts.old attempts.new (S.seen site.old) (S.seen site.new)) }
+        → HasWork tasks.now S.gives (files (S.told site.new)) (A.board attempts.new) (S.seen site.new).running }
+    ensures moves { OnOk result (Moves 1
+        (A.board attempts.old) (A.board attempts.new) (S.seen site.old) (S.seen site.new)) }
     ensures stays { OnErr result (attempts.new ≡ attempts.old) }
     ensures faults { S.faults site.new ≡ S.faults site.old }
     ensures said { S.said site.new ≡ S.said site.old }
@@ -57,23 +59,25 @@ pub(crate) fn start_child<S: Site>(
 }
 
 /// Starts an attempt of a task.
-pub(crate) fn start_one<S: Site>(
+pub(crate) fn start_one<S: Site, A: Attempting, V: Delivery>(
     alloc: Global,
     site: &mut S,
-    tasks: &Tasks,
-    attempts: &mut Attempts,
+    tasks: &Tasks<V>,
+    attempts: &mut A,
     task: u32,
     number: u8,
 ) -> Result<(), NoMemory>
-    requires may { MayStart attempts.old task number }
-    requires fits { Fits tasks.now attempts.old (S.seen site.old).running }
+    requires may { A.may (A.board attempts.old) task number }
+    requires fits { AreChildrenOf tasks.now (A.board attempts.old) (S.seen site.old).running }
     requires stands { S.tells
-        → Stands tasks.now S.gives (files (S.told site.old)) attempts.old (S.seen site.old).running }
-    ensures turn { Turn Working (Unit {0}) S.tells tasks.now attempts.old attempts.new (S.seen site.old) (S.seen site.new)
+        → HasWork tasks.now S.gives (files (S.told site.old)) (A.board attempts.old) (S.seen site.old).running }
+    ensures turn { Turn A.may Working (Unit {0}) S.tells tasks.now
+        (A.board attempts.old) (A.board attempts.new) (S.seen site.old) (S.seen site.new)
         (S.given site.old) (S.given site.new) (S.told site.old) (S.told site.new) }
     ensures stands { S.tells
-        → Stands tasks.now S.gives (files (S.told site.new)) attempts.new (S.seen site.new).running }
-    ensures moves { OnOk result (Moves 1 attempts.old attempts.new (S.seen site.old) (S.seen site.new)) }
+        → HasWork tasks.now S.gives (files (S.told site.new)) (A.board attempts.new) (S.seen site.new).running }
+    ensures moves { OnOk result (Moves 1
+        (A.board attempts.old) (A.board attempts.new) (S.seen site.old) (S.seen site.new)) }
     ensures stays { OnErr result (attempts.new ≡ attempts.old) }
     ensures faults { S.faults site.new ≡ S.faults site.old }
     ensures said { S.said site.new ≡ S.said site.old }

@@ -3,6 +3,7 @@
 #![tactic(auto)]
 
 mod begin;
+mod delivery;
 mod fault;
 mod finish;
 mod inputs;
@@ -18,7 +19,7 @@ mod tasks;
 mod turns;
 
 pub use fault::JobFault;
-pub use phase::run_phase;
-pub use run::run_job;
+pub use phase::{Alone, Phases, run_phase};
+pub use run::{run_job, run_job_over};
 pub use shuffling::{ShuffleFault, shuffle};
 pub use spec::{JobReport, JobSpec};

@@ -7,15 +7,16 @@ ghost use Rattle.committer.specs.Folders.{Writes};
 ghost use Rattle.committer.specs.Paths.{shuffle_of, task_output_of};
 ghost use Rattle.job.specs.Chunks.{chunks_of};
 ghost use Rattle.job.specs.Failing.{gained};
-ghost use Rattle.job.specs.Logged.{IsLeftBy, JobLog, MapLog, NamesNoTask, PhaseLog, TellsOfJob, reduced_attempts};
+ghost use Rattle.job.specs.Logged.{IsLeftBy, JobLog, MapLog, NamesNoTask, NoneTwice, PhaseLog, TellsOfJob, reduced_attempts};
 ghost use Rattle.job.specs.Shuffled.{HasJustRuns};
 ghost use Rattle.job.specs.Output.{job_parts, map_inputs, map_outputs, pairs_among, reduce_inputs};
 ghost use Rattle.job.specs.Whole.{CanBegin, IsFinished, IsInLimits, IsMapped, IsReduced, IsShuffled, Makes, Once, plan_of};
 ghost use Rattle.job.specs.Work.{work_of};
+ghost use Rattle.task_core.specs.Board.{MayStart};
 
 use crate::fault::JobFault;
 use crate::inputs::write_inputs;
-use crate::phase::run_phase;
+use crate::phase::{Alone, Phases};
 use crate::shuffling::shuffle;
 use crate::spec::{JobReport, JobSpec};
 use committer::{commit_job, open_folder, task_output};
@@ -43,7 +44,12 @@ struct Reduced {
 }
 
 /// Empties the job's folder, writes the splits of its inputs, and runs the map tasks.
-fn map_stage<S: Site>(alloc: Global, site: &mut S, spec: &JobSpec) -> Result<Mapped, JobFault>
+fn map_stage<S: Site, P: Phases>(
+    alloc: Global,
+    site: &mut S,
+    phases: &P,
+    spec: &JobSpec,
+) -> Result<Mapped, JobFault>
     requires limits { IsInLimits spec.now }
     requires none_running { (S.seen site.old).running ≡ [] }
     requires can { S.tells → CanBegin spec.now (files (S.told site.old)) }
@@ -55,7 +61,7 @@ fn map_stage<S: Site>(alloc: Global, site: &mut S, spec: &JobSpec) -> Result<Map
     ensures mapped { let plan = plan_of spec.now (files (S.told site.old)) in S.tells
         → OnOk result (IsMapped spec.now.folder (map_outputs S.gives plan) (files (S.told site.new))) }
     ensures log { let plan = plan_of spec.now (files (S.told site.old)) in
-        MapLog S.tells spec.now.folder plan spec.now.slots
+        MapLog P.may S.tells spec.now.folder plan spec.now.slots
         (S.seen site.old) (S.seen site.new) (S.given site.old) (S.given site.new) (S.told site.new) result }
     ensures said { S.said site.new ≡ S.said site.old }
     ensures says { S.says site.new ≡ S.says site.old }
@@ -64,7 +70,7 @@ fn map_stage<S: Site>(alloc: Global, site: &mut S, spec: &JobSpec) -> Result<Map
 {
     open_folder(alloc, site, &spec.folder)?;
     let tasks = write_inputs(alloc, site, &spec.folder, &spec.inputs, spec.split)?;
-    let attempts = run_phase(
+    let attempts = phases.run(
         alloc,
         site,
         &spec.folder,
@@ -131,9 +137,10 @@ fn shuffle_outputs<S: Site>(
 }
 
 /// Shuffles what the map tasks wrote, and runs the reduce tasks.
-fn reduce_stage<S: Site>(
+fn reduce_stage<S: Site, P: Phases>(
     alloc: Global,
     site: &mut S,
+    phases: &P,
     spec: &JobSpec,
     tasks: u32,
 ) -> Result<Reduced, JobFault>
@@ -155,7 +162,7 @@ fn reduce_stage<S: Site>(
         → OnOk result (Once (HasJustRuns (shuffle_of spec.now.folder) spec.now.reducers
         (chunks_of spec.now.spill (pairs_among (map_outputs S.gives plan)))) (S.told site.old) (S.told site.new)) }
     ensures log { let plan = plan_of spec.now (files (S.told site.old)) in
-        PhaseLog S.tells (work_of spec.now.folder Reduce spec.now.reduce spec.now.reducers) spec.now.slots
+        PhaseLog P.may S.tells (work_of spec.now.folder Reduce spec.now.reduce spec.now.reducers) spec.now.slots
         (reduce_inputs S.gives plan) (S.seen site.old) (S.seen site.new) (S.given site.old) (S.given site.new)
         (S.told site.new) (reduced_attempts result) }
     ensures said { S.said site.new ≡ S.said site.old }
@@ -164,7 +171,7 @@ fn reduce_stage<S: Site>(
     ensures cause { HasCause JobFault.Disk (S.faults site.old) (S.faults site.new) result }
 {
     let pairs = shuffle_outputs(alloc, site, spec, tasks)?;
-    let attempts = run_phase(
+    let attempts = phases.run(
         alloc,
         site,
         &spec.folder,
@@ -174,6 +181,62 @@ fn reduce_stage<S: Site>(
         spec.slots,
     )?;
     Ok(Reduced { pairs, attempts })
+}
+
+/// Runs a whole job, its phases as they are handed in.
+pub fn run_job_over<S: Site, P: Phases>(
+    alloc: Global,
+    site: &mut S,
+    phases: &P,
+    spec: &JobSpec,
+) -> Result<JobReport, JobFault>
+    requires limits { IsInLimits spec.now }
+    requires none_running { (S.seen site.old).running ≡ [] }
+    requires can { S.tells → CanBegin spec.now (files (S.told site.old)) }
+    // No child runs.
+    ensures none_running { (S.seen site.new).running ≡ [] }
+    // At every moment each image has the folder not whole, or whole with its parts and no other file, and all outside it is
+    // as at entry.
+    ensures steps { let plan = plan_of spec.now (files (S.told site.old)) in S.tells
+        → Through (Makes spec.now.folder (job_parts S.gives plan) (files (S.told site.old)))
+        (S.told site.old) (S.told site.new) }
+    // The folder is whole in every image, with its parts and no other file.
+    ensures finished { let plan = plan_of spec.now (files (S.told site.old)) in S.tells
+        → OnOk result (IsFinished spec.now.folder (job_parts S.gives plan) (files (S.told site.new))) }
+    // After a refusal no image has the folder whole, but where the commit itself was refused.
+    ensures left { S.tells → IsLeftBy spec.now.folder spec.now.reducers
+        (gained (S.seen site.old).log (S.seen site.new).log) (files (S.told site.new)) result }
+    // The reducers got what was merged: at some moment the shuffle's folder had the runs of just these chunks.
+    ensures merged { let plan = plan_of spec.now (files (S.told site.old)) in S.tells
+        → OnOk result (Once (HasJustRuns (shuffle_of spec.now.folder) spec.now.reducers
+        (chunks_of spec.now.spill (pairs_among (map_outputs S.gives plan)))) (S.told site.old) (S.told site.new)) }
+    // The log gained a run of the machine for each phase, and the children were given their words and texts. After a dead
+    // task no call of the directory was made.
+    ensures log { let plan = plan_of spec.now (files (S.told site.old)) in
+        JobLog P.may S.tells S.gives spec.now.folder plan spec.now.slots
+        (S.seen site.old) (S.seen site.new) (S.given site.old) (S.given site.new) (S.told site.new) result }
+    // The entries of the log tell the answer by themselves.
+    ensures tells { TellsOfJob spec.now.folder (gained (S.seen site.old).log (S.seen site.new).log) result }
+    // The report has the numbers of map tasks, of reduce tasks and of pairs.
+    ensures maps { let plan = plan_of spec.now (files (S.told site.old)) in S.tells
+        → IfOk result (λ report. report.maps ≡ length (map_inputs plan)) }
+    ensures reduces { IfOk result (λ report. report.reduces ≡ spec.now.reducers) }
+    ensures pairs { let plan = plan_of spec.now (files (S.told site.old)) in S.tells
+        → IfOk result (λ report. report.pairs ≡ length (pairs_among (map_outputs S.gives plan))) }
+    ensures said { S.said site.new ≡ S.said site.old }
+    ensures says { S.says site.new ≡ S.says site.old }
+    ensures say_faults { S.say_faults site.new ≡ S.say_faults site.old }
+    ensures cause { HasCause JobFault.Disk (S.faults site.old) (S.faults site.new) result }
+{
+    let mapped = map_stage(alloc, site, phases, spec)?;
+    let reduced = reduce_stage(alloc, site, phases, spec, mapped.tasks)?;
+    commit_job(alloc, site, &spec.folder, spec.reducers)?;
+    Ok(JobReport {
+        maps: mapped.tasks,
+        reduces: spec.reducers,
+        attempts: mapped.attempts + reduced.attempts,
+        pairs: reduced.pairs,
+    })
 }
 
 /// Runs a whole job: its folder is emptied, its inputs are cut into splits, a child maps each split, the pairs that the
@@ -205,10 +268,12 @@ pub fn run_job<S: Site>(alloc: Global, site: &mut S, spec: &JobSpec) -> Result<J
     // The log gained a run of the machine for each phase, and the children were given their words and texts. After a dead
     // task no call of the directory was made.
     ensures log { let plan = plan_of spec.now (files (S.told site.old)) in
-        JobLog S.tells S.gives spec.now.folder plan spec.now.slots
+        JobLog MayStart S.tells S.gives spec.now.folder plan spec.now.slots
         (S.seen site.old) (S.seen site.new) (S.given site.old) (S.given site.new) (S.told site.new) result }
     // The entries of the log tell the answer by themselves.
     ensures tells { TellsOfJob spec.now.folder (gained (S.seen site.old).log (S.seen site.new).log) result }
+    // No task has succeeded twice.
+    ensures once { NoneTwice spec.now.folder (gained (S.seen site.old).log (S.seen site.new).log) }
     // The report has the numbers of map tasks, of reduce tasks and of pairs.
     ensures maps { let plan = plan_of spec.now (files (S.told site.old)) in S.tells
         → IfOk result (λ report. report.maps ≡ length (map_inputs plan)) }
@@ -220,13 +285,5 @@ pub fn run_job<S: Site>(alloc: Global, site: &mut S, spec: &JobSpec) -> Result<J
     ensures say_faults { S.say_faults site.new ≡ S.say_faults site.old }
     ensures cause { HasCause JobFault.Disk (S.faults site.old) (S.faults site.new) result }
 {
-    let mapped = map_stage(alloc, site, spec)?;
-    let reduced = reduce_stage(alloc, site, spec, mapped.tasks)?;
-    commit_job(alloc, site, &spec.folder, spec.reducers)?;
-    Ok(JobReport {
-        maps: mapped.tasks,
-        reduces: spec.reducers,
-        attempts: mapped.attempts + reduced.attempts,
-        pairs: reduced.pairs,
-    })
+    run_job_over(alloc, site, &Alone, spec)
 }

@@ -1,15 +1,15 @@
 ghost use Rattle.std.specs.Prelude.{◌≡◌, ◌+◌, ◌<◌, ◌≤◌, length, IfOk, OnOk};
 ghost use Rattle.dir_disk.specs.Causes.{HasCause};
-ghost use Rattle.dir_disk.specs.State.{after_move};
 ghost use Rattle.dir_disk.specs.Moments.{Both, Through, clock, files};
 ghost use Rattle.dir_disk.specs.Calls.{HasFile};
 ghost use Rattle.dir_disk.specs.Lent.{IsFree};
 ghost use Rattle.committer.specs.Faults.{calls_of};
 ghost use Rattle.committer.specs.Commits.{StandsBeside};
 ghost use Rattle.job.specs.Work.{folder_at, home_at, input_at, output_at};
-ghost use Rattle.job.specs.Standing.{IsOpenFrom};
+ghost use Rattle.job.specs.Standing.{IsMoved, IsOpenFrom};
 
-use committer::{CommitFault, attempt_output, commit_task, task_input};
+use crate::delivery::Delivery;
+use committer::{CommitFault, attempt_output, task_input};
 use dir_disk::Dir;
 use peg_base::{Attempt, Path, Phase, TaskId, Words};
 use peg_text::NoMemory;
@@ -18,7 +18,7 @@ use std::marker::Model;
 
 /// The tasks of one phase of a job.
 #[derive(Drop)]
-pub(crate) struct Tasks<'a> {
+pub(crate) struct Tasks<'a, V: Delivery> {
     /// The folder that the job makes.
     pub(crate) folder: &'a Path,
     /// The phase.
@@ -27,22 +27,37 @@ pub(crate) struct Tasks<'a> {
     pub(crate) words: &'a Words,
     /// The number of tasks.
     pub(crate) count: u32,
+    /// What is done with the output of the attempt that makes its task done.
+    pub(crate) delivery: &'a V,
 }
 
-impl<'a> Model for Tasks<'a> {
-    ghost use Rattle.job.specs.Work.{Work, work_of};
+impl<'a, V: Delivery> Model for Tasks<'a, V> {
+    ghost use Rattle.job.specs.Work.{Work};
 
     ghost Value = { Work };
 
-    ghost view = { λ t. work_of t.folder.now t.phase t.words.now t.count };
+    ghost view = { λ t. record {
+      folder = t.folder.now;
+      phase = t.phase;
+      words = t.words.now;
+      count = t.count;
+      home = V.home t.delivery.now;
+    } };
 }
 
-impl<'a> Tasks<'a> {
+impl<'a, V: Delivery> Tasks<'a, V> {
     /// The words of each child.
     pub(crate) fn words(&self) -> &Words
         ensures { result.now ≡ self.now.words }
     {
         self.words
+    }
+
+    /// The folder that the job makes.
+    pub(crate) fn job(&self, alloc: Global) -> Result<Path, NoMemory>
+        ensures { IfOk result (λ path. path ≡ self.now.folder) }
+    {
+        self.folder.copy(alloc)
     }
 
     /// An attempt of one of the tasks.
@@ -81,8 +96,8 @@ impl<'a> Tasks<'a> {
         attempt_output(alloc, self.folder, attempt)
     }
 
-    /// Makes an attempt the one whose output counts for its task.
-    pub(crate) fn commit<D: Dir>(
+    /// Delivers the output of an attempt, which makes its task done.
+    pub(crate) fn deliver<D: Dir>(
         &self,
         alloc: Global,
         dir: &mut D,
@@ -97,14 +112,13 @@ impl<'a> Tasks<'a> {
         ensures steps { let from = folder_at self.now attempt.now.task.task attempt.now.number in
             let to = home_at self.now attempt.now.task.task in D.tells
             → Through (Both (StandsBeside from to (files (D.told dir.old)))) (D.told dir.old) (D.told dir.new) }
-        ensures moved { let from = folder_at self.now attempt.now.task.task attempt.now.number in
-            let to = home_at self.now attempt.now.task.task in D.tells
-            → OnOk result (files (D.told dir.new) ≡ after_move from to (files (D.told dir.old))) }
+        ensures moved { D.tells → OnOk result (IsMoved self.now attempt.now.task.task attempt.now.number
+            (files (D.told dir.old)) (files (D.told dir.new))) }
         ensures calls { D.tells → clock (D.told dir.new) ≡ clock (D.told dir.old) + calls_of result }
         ensures lent { D.lent dir.new ≡ D.lent dir.old }
         ensures beside { D.beside dir.new ≡ D.beside dir.old }
         ensures cause { HasCause CommitFault.Disk (D.faults dir.old) (D.faults dir.new) result }
     {
-        commit_task(alloc, dir, self.folder, attempt)
+        self.delivery.deliver(alloc, dir, self.folder, attempt)
     }
 }

@@ -1,6 +1,8 @@
 pub mod Tasks
-pub mod Runs
+pub mod TriedLemmas
 pub mod History
-pub mod Lengths
 pub mod Queue
 pub mod Sound
+pub mod Alone
+pub mod OneAtOnce
+pub mod RuleLemmas

@@ -1,4 +1,5 @@
-pub mod Machine
+pub mod Board
 pub mod Log
-pub mod Laws
 pub mod Sound
+pub mod Rules
+pub mod Laws

@@ -1,6 +1,6 @@
-ghost use Rattle.std.specs.Prelude.{◌≡◌, ℕ, ℤ, ◌+◌, ◌<◌, ◌≤◌, ◌↔◌, ◌==◌, IsTrue, IfOk, IfSome, MatchOption, if◌then◌else◌, nat_lt, length};
+ghost use Rattle.std.specs.Prelude.{◌≡◌, ℕ, ℤ, ◌<◌, ◌≤◌, ◌↔◌, true, false, IsTrue, IfOk, IfSome, MatchOption, if◌then◌else◌, nat_lt, length};
 ghost use Rattle.std.specs.BinaryHeap.{heap_items, heap_len, heap_capacity, IsHeap};
-ghost use Rattle.task_core.specs.Machine.{task_at, with_task, fresh, running_of, NoneDead, AllDone, IsLeastDead, MayStart, IsBusy, Start, StartFailed, Ended, is_success, after};
+ghost use Rattle.task_core.specs.Board.{AllDone, IsBusy, IsIdle, IsLeastDead, MayStart, NoneDead, Runs, Start, Refuse, End, is_done, is_success, after, fresh, running_of, tried_at};
 ghost use Rattle.task_core.specs.Sound.{least_first, entries_of};
 
 use crate::task::Task;
@@ -13,8 +13,8 @@ use std::marker::Model;
 /// An attempt of this number is the last one of its task.
 const LAST: u8 = 4;
 
-/// The tasks of one phase and their attempts, as the machine's state: how many slots there are, and
-/// the state of each task.
+/// The tasks of one phase and their attempts, of which one of a task runs at once: how many slots
+/// there are, and what each task has tried.
 ///
 /// The least ready task is found at once, and a start or a failure takes time logarithmic in the
 /// number of ready tasks.
@@ -30,12 +30,13 @@ pub struct Attempts {
 
 impl Model for Attempts {
     ghost use Rattle.std.specs.BinaryHeap.{heap_items, heap_capacity};
-    ghost use Rattle.task_core.specs.Machine.{Machine};
-    ghost use Rattle.task_core.specs.Sound.{IsSound};
+    ghost use Rattle.std.specs.Prelude.{map};
+    ghost use Rattle.task_core.specs.Board.{Board};
+    ghost use Rattle.task_core.specs.Sound.{IsSound, tried_of};
 
-    ghost Value = { Machine };
+    ghost Value = { Board };
 
-    ghost view = { λ m. record { slots = m.slots; tasks = m.tasks.items } };
+    ghost view = { λ m. record { slots = m.slots; tasks = map tried_of m.tasks.items } };
 
     ghost invariant = { λ m. IsSound m.tasks.items (heap_items m.queue) (heap_capacity m.queue)
         m.running m.unfinished m.least_dead };
@@ -62,7 +63,7 @@ impl Attempts {
     /// The attempt that may be started now: the least ready task and the number, from 1 to 4, of its
     /// next attempt. `None` where no task is ready, no slot is free or a task is dead.
     pub fn ready(&self) -> Option<(u32, u8)>
-        ensures exact { MatchOption result (IsBusy self.now) (λ r. MayStart self.now r.0 r.1) }
+        ensures exact { MatchOption result (IsBusy MayStart self.now) (λ r. MayStart self.now r.0 r.1) }
         ensures numbered { IfSome result (λ r. (1 ≤ r.1) × (r.1 ≤ 4)) }
     {
         if self.running >= self.slots || self.least_dead.is_some() {
@@ -81,9 +82,7 @@ impl Attempts {
         ensures { (a : ℕ) → MayStart self.old task a →
             self.new ≡ after self.old (Start task a) }
     {
-        let Task::Ready(number) = self.tasks[task as usize] else {
-            unreachable!()
-        };
+        let number = self.next_of(task);
         let _ = self.queue.pop();
         self.tasks[task as usize] = Task::Running(number);
         self.running += 1;
@@ -93,7 +92,7 @@ impl Attempts {
     pub fn start_failed(&mut self, task: u32)
         requires { (a : ℕ) × MayStart self.old task a }
         ensures { (a : ℕ) → MayStart self.old task a →
-            self.new ≡ after self.old (StartFailed task a) }
+            self.new ≡ after self.old (Refuse task a) }
     {
         self.start(task);
         self.end(task, false);
@@ -102,25 +101,49 @@ impl Attempts {
     /// Ends the attempt of this task that runs. `ok` makes the task done; else it is ready for its
     /// next attempt, and dead after its fourth.
     pub fn end(&mut self, task: u32, ok: bool)
-        requires { (a : ℕ) × (task_at self.old.tasks task ≡ Task.Running a) }
-        ensures { (a : ℕ) (status : ℤ) → task_at self.old.tasks task ≡ Task.Running a →
-            ok ≡ is_success status → self.new ≡ after self.old (Ended task a status) }
+        requires { (a : ℕ) × Runs self.old.tasks task a }
+        ensures ended { (a : ℕ) (status : ℤ) → Runs self.old.tasks task a →
+            ok ≡ is_success status → self.new ≡ after self.old (End task a status) }
+        ensures open { is_done (tried_at self.old.tasks task) ≡ false }
     {
-        let Task::Running(number) = self.tasks[task as usize] else {
-            unreachable!()
-        };
+        let number = self.running_of(task);
         if ok {
-            self.finish(task);
+            self.finish(task, number);
         } else if number < LAST {
             self.retry(task, number);
         } else {
-            self.give_up(task);
+            self.give_up(task, number);
         }
     }
 
-    fn finish(&mut self, task: u32)
-        requires { (a : ℕ) × (task_at self.old.tasks task ≡ Task.Running a) }
-        ensures { self.new ≡ with_task self.old task Task.Done }
+    // The next attempt of a task that is ready.
+    fn next_of(&self, task: u32) -> u8
+        requires { (a : ℕ) × IsIdle self.now.tasks task a }
+        ensures { IsIdle self.now.tasks task result }
+    {
+        match self.tasks[task as usize] {
+            Task::Ready(number) => number,
+            _ => unreachable!(),
+        }
+    }
+
+    // The attempt of a task that runs.
+    fn running_of(&self, task: u32) -> u8
+        requires { (a : ℕ) × Runs self.now.tasks task a }
+        ensures runs { Runs self.now.tasks task result }
+        ensures last { result ≤ 4 }
+        ensures open { is_done (tried_at self.now.tasks task) ≡ false }
+    {
+        match self.tasks[task as usize] {
+            Task::Running(number) => number,
+            _ => unreachable!(),
+        }
+    }
+
+    fn finish(&mut self, task: u32, number: u8)
+        requires { Runs self.old.tasks task number }
+        ensures { (a : ℕ) (status : ℤ) → Runs self.old.tasks task a →
+            is_success status ≡ true → self.new ≡ after self.old (End task a status) }
     {
         self.running -= 1;
         self.unfinished -= 1;
@@ -128,18 +151,21 @@ impl Attempts {
     }
 
     fn retry(&mut self, task: u32, number: u8)
-        requires runs { task_at self.old.tasks task ≡ Task.Running number }
+        requires runs { Runs self.old.tasks task number }
         requires fits { number < 4 }
-        ensures { self.new ≡ with_task self.old task (Task.Ready (number + 1)) }
+        ensures { (a : ℕ) (status : ℤ) → Runs self.old.tasks task a →
+            is_success status ≡ false → self.new ≡ after self.old (End task a status) }
     {
         self.queue.push(Reverse(task)).unwrap();
         self.running -= 1;
         self.tasks[task as usize] = Task::Ready(number + 1);
     }
 
-    fn give_up(&mut self, task: u32)
-        requires { (a : ℕ) × (task_at self.old.tasks task ≡ Task.Running a) }
-        ensures { self.new ≡ with_task self.old task Task.Dead }
+    fn give_up(&mut self, task: u32, number: u8)
+        requires runs { Runs self.old.tasks task number }
+        requires last { number ≡ 4 }
+        ensures { (a : ℕ) (status : ℤ) → Runs self.old.tasks task a →
+            is_success status ≡ false → self.new ≡ after self.old (End task a status) }
     {
         self.running -= 1;
         self.least_dead = Some(self.least_dead.map_or(task, |least| least.min(task)));

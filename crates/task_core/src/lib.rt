@@ -2,12 +2,14 @@
 //! the machine that every list of such steps follows.
 #![tactic(auto)]
 
+mod attempting;
 mod attempts;
 mod laws;
 mod task;
 
+pub use attempting::Attempting;
 pub use attempts::Attempts;
 pub use laws::{
-    attempts_are_bounded, death_is_final, logs_tell_the_state, runs_grow, steps_are_determined,
+    attempts_are_bounded, death_is_final, logs_tell_the_state, one_attempt_at_once, runs_grow,
+    steps_are_determined,
 };
-pub use task::Task;
