@@ -1,2 +1,12 @@
 pub mod LineLemmas
 pub mod ReadLemmas
+pub mod RunLemmas
+pub mod Settling
+pub mod Sealing
+pub mod Due
+pub mod Begin
+pub mod Nodes
+pub mod TakenUp
+pub mod Finished
+pub mod Starting
+pub mod WordLemmas

@@ -2,3 +2,5 @@ pub mod Lines
 pub mod Outcomes
 pub mod Plain
 pub mod Words
+pub mod Running
+pub mod Opening

@@ -1,14 +1,21 @@
-//! The commands of the program, from their words and edges to the lines that they say.
+//! The commands of the program, from their words and edges to the folders that they leave and the lines that they say.
 #![tactic(auto)]
 
+mod comparing;
+mod first;
 mod lines;
+mod mining_run;
+mod opening;
 mod outcome;
 mod plain;
 mod plain_words;
 mod reading;
+mod resume;
+mod running;
+mod settle;
+#[cfg(test)]
+mod tests;
 
 pub use outcome::Outcome;
 pub use plain::run_plain;
-
-#[cfg(test)]
-mod tests;
+pub use running::run;

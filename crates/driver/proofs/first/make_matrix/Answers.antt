@@ -1,0 +1,34 @@
+use Rattle.std.proofs.Common.{refl}
+use Rattle.dir_disk.specs.Moments.{EachImage, Told, Through, files}
+use Rattle.dir_disk.proofs.Through.{then_goes}
+use Rattle.mining.specs.declared.place.Place.TheVariants.{Nodes, Matrix}
+use Rattle.mining.specs.Flow.{Mining, mining_of}
+use Rattle.mining.specs.Kept.{AllKept, Kept}
+use Rattle.mining.proofs.EnsureLemmas.{kept_after, stays_then}
+use Rattle.driver.proofs.Due.{due_after, matrix_follows, read_matrix}
+use Rattle.driver.proofs.Starting.{later_then, matrix_later}
+use Rattle.driver.proofs.first.make_matrix.Goals as goal
+
+pub returns-clause-stays : goal.returns-clause-stays
+returns-clause-stays g c =
+    λ tells. stays_then (g.S.Dir.told c.args.site.now) (g.S.Dir.told c.make_nodes.new.site) (g.S.Dir.told c.ensure_folder.new.site) (c.make_nodes.ensures.stays tells) (c.ensure_folder.ensures.stays tells)
+
+pub returns-in_err-make_nodes-clause-kept : goal.returns-in_err-make_nodes-clause-kept
+returns-in_err-make_nodes-clause-kept g c =
+    λ edges tells kept sure form. c.make_nodes.ensures.kept edges tells kept sure
+
+pub returns-clause-kept : goal.returns-clause-kept
+returns-clause-kept g c =
+    λ edges tells kept sure form.
+    let mining : Mining = mining_of g.S.Site.gives c.args.conf.now edges in
+    let d : Told = g.S.Dir.told c.args.site.now in
+    let e : Told = g.S.Dir.told c.make_nodes.new.site in
+    let f : Told = g.S.Dir.told c.ensure_folder.new.site in
+    let first : Through (EachImage (Kept mining)) d e = c.make_nodes.ensures.kept edges tells kept sure in
+    let then_kept : AllKept mining (files e) = kept_after mining d e kept first in
+    let nodes = c.in_ok-make_nodes.ensures.sure tells in
+    then_goes (EachImage (Kept mining)) d e f first (c.ensure_folder.ensures.kept edges tells then_kept (due_after mining Nodes Matrix (files e) (λ q. g.met.S.Dir.now_allowed c.make_nodes.new.site q tells) then_kept tt refl tt refl tt (matrix_follows mining form) nodes) (read_matrix mining form 0 (files e) (λ q. g.met.S.Dir.now_allowed c.make_nodes.new.site q tells) then_kept nodes))
+
+pub returns-clause-later : goal.returns-clause-later
+returns-clause-later g c =
+    λ tells. later_then (files (g.S.Dir.told c.args.site.now)) (files (g.S.Dir.told c.make_nodes.new.site)) (files (g.S.Dir.told c.ensure_folder.new.site)) (c.make_nodes.ensures.later tells) (matrix_later (files (g.S.Dir.told c.make_nodes.new.site)) (files (g.S.Dir.told c.ensure_folder.new.site)) (c.ensure_folder.ensures.outside tells))

@@ -1,0 +1,71 @@
+use Rattle.driver.proofs.Finished.{whole_finished}
+use Rattle.mining.proofs.EnsureLemmas.{stays_then}
+use Rattle.std.proofs.Common.{ap}
+use Rattle.dir_disk.specs.Moments.{EachImage, Through, Told, files}
+use Rattle.dir_disk.proofs.Through.{then_goes}
+use Rattle.conf.specs.Rules.{is_clustered}
+use Rattle.mining.specs.Flow.{Mining, mining_of}
+use Rattle.mining.specs.Kept.{Kept}
+use Rattle.mining.proofs.EnsureLemmas.{kept_after}
+use Rattle.std.proofs.Common.{List, ℕ, subst}
+use Rattle.std.specs.Prelude.{unwrap_or}
+use Rattle.dir_disk.specs.Moments.{files}
+use Rattle.dir_disk.specs.Streams.{AddsPart}
+use Rattle.mining.specs.Kept.{AllKept}
+use Rattle.mining.specs.Iterations.{IsDone, console_after}
+use Rattle.mining.proofs.EnsureLemmas.{on_ok}
+use Rattle.mining.proofs.LastLemmas.{part_longer, part_then}
+use Rattle.driver.specs.Opening.{HasRun, from_text}
+use Rattle.driver.proofs.Starting.{console_is, has_run}
+use Rattle.driver.proofs.mining_run.go_on.Goals as goal
+
+pub returns-in_err-from-clause-kept : goal.returns-in_err-from-clause-kept
+returns-in_err-from-clause-kept g c = λ edges tells kept form. c.start.ensures.kept edges tells kept
+
+pub returns-clause-kept : goal.returns-clause-kept
+returns-clause-kept g c =
+    λ edges tells kept form.
+    let mining : Mining = mining_of g.S.Site.gives c.args.conf.now edges in
+    let d : Told = g.S.Dir.told c.args.site.now in
+    let e : Told = g.S.Dir.told c.start.new.site in
+    let first : Through (EachImage (Kept mining)) d e = c.start.ensures.kept edges tells kept in
+    then_goes (EachImage (Kept mining)) d e (g.S.Dir.told c.mine_on.new.site) first (c.mine_on.ensures.kept edges tells (kept_after mining d e kept first) (c.in_ok-from.ensures.at edges tells kept) (ap is_clustered form))
+
+pub returns-in_err-from-clause-stays : goal.returns-in_err-from-clause-stays
+returns-in_err-from-clause-stays g c = λ tells. whole_finished (g.S.Dir.told c.args.site.now) (g.S.Dir.told c.start.new.site) (c.start.ensures.stays tells)
+
+pub returns-clause-stays : goal.returns-clause-stays
+returns-clause-stays g c =
+    λ tells. whole_finished (g.S.Dir.told c.args.site.now) (g.S.Dir.told c.mine_on.new.site) (stays_then (g.S.Dir.told c.args.site.now) (g.S.Dir.told c.start.new.site) (g.S.Dir.told c.mine_on.new.site) (c.start.ensures.stays tells) (c.mine_on.ensures.stays tells))
+
+pub returns-clause-acked : goal.returns-clause-acked
+returns-clause-acked g c =
+    λ entry had tells acks. c.mine_on.ensures.acked entry had tells (c.start.ensures.acked entry had tells acks)
+
+pub returns-in_err-from-clause-part : goal.returns-in_err-from-clause-part
+returns-in_err-from-clause-part g c =
+    λ edges k l tells kept form from last.
+    let mining : Mining = mining_of g.S.Site.gives c.args.conf.now edges in
+    subst (λ (text : List ℕ). AddsPart (g.S.Console.said c.args.site.now) (g.S.Console.said c.start.new.site) text) (console_is mining k l) (part_longer (g.S.Console.said c.args.site.now) (g.S.Console.said c.start.new.site) (from_text mining k) (console_after mining (unwrap_or k 0) l) (c.start.ensures.part edges k tells kept from))
+
+pub returns-clause-part : goal.returns-clause-part
+returns-clause-part g c =
+    λ edges k l tells kept form from last.
+    let mining : Mining = mining_of g.S.Site.gives c.args.conf.now edges in
+    let d : Told = (g.S.Dir.told c.args.site.now) in
+    let e : Told = (g.S.Dir.told c.start.new.site) in
+    let first : Through (EachImage (Kept mining)) d e = c.start.ensures.kept edges tells kept in
+    let then_kept : AllKept mining (files e) = kept_after mining d e kept first in
+    let rest = c.mine_on.ensures.part edges l tells then_kept (c.in_ok-from.ensures.at edges tells kept) (ap is_clustered form) last in
+    subst (λ (text : List ℕ). AddsPart (g.S.Console.said c.args.site.now) (g.S.Console.said c.mine_on.new.site) text) (console_is mining k l) (part_then (g.S.Console.said c.args.site.now) (g.S.Console.said c.start.new.site) (g.S.Console.said c.mine_on.new.site) (from_text mining k) (console_after mining (unwrap_or k 0) l) (c.in_ok-from.ensures.ok edges k tells kept from) (subst (λ (j : ℕ). AddsPart (g.S.Console.said c.start.new.site) (g.S.Console.said c.mine_on.new.site) (console_after mining j l)) (c.in_ok-from.ensures.is k tells from) rest))
+
+pub returns-clause-done : goal.returns-clause-done
+returns-clause-done g c =
+    λ edges k tells kept form from.
+    let mining : Mining = mining_of g.S.Site.gives c.args.conf.now edges in
+    let d : Told = (g.S.Dir.told c.args.site.now) in
+    let e : Told = (g.S.Dir.told c.start.new.site) in
+    let first : Through (EachImage (Kept mining)) d e = c.start.ensures.kept edges tells kept in
+    let then_kept : AllKept mining (files e) = kept_after mining d e kept first in
+    let rest = c.mine_on.ensures.done edges tells then_kept (c.in_ok-from.ensures.at edges tells kept) (ap is_clustered form) in
+    on_ok (IsDone mining c.in_ok-from.from.k (g.S.Console.said c.start.new.site) (g.S.Console.said c.mine_on.new.site) (files (g.S.Dir.told c.mine_on.new.site))) (HasRun mining k (g.S.Console.said c.args.site.now) (g.S.Console.said c.mine_on.new.site) (files (g.S.Dir.told c.mine_on.new.site))) c.mine_on.result (has_run mining k c.in_ok-from.from.k (g.S.Console.said c.args.site.now) (g.S.Console.said c.start.new.site) (g.S.Console.said c.mine_on.new.site) (files (g.S.Dir.told c.mine_on.new.site)) (c.in_ok-from.ensures.is k tells from) (c.in_ok-from.ensures.ok edges k tells kept from)) rest

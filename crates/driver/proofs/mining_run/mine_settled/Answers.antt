@@ -1,0 +1,94 @@
+use Rattle.driver.proofs.Finished.{finished_then, looks_finished}
+use Rattle.std.proofs.Common.{◌≡◌}
+use Rattle.dir_disk.specs.Moments.{Told}
+use Rattle.edge_text.specs.Edges.{edges_of}
+use Rattle.conf.specs.declared.commands.Form.TheVariants.{Base}
+use Rattle.mining.specs.Flow.{Mining, mining_of}
+use Rattle.driver.proofs.Begin.{first_then, then_last}
+use Rattle.driver.proofs.Settling.{same_keeps}
+use Rattle.std.proofs.Common.{◌≡◌, ◌∙◌, ℕ, List, Some, sym, subst}
+use Rattle.std.specs.Prelude.{OnOk, Option}
+use Rattle.dir_disk.specs.State.{State}
+use Rattle.dir_disk.specs.Moments.{EachImage, Through, Told, files}
+use Rattle.dir_disk.specs.Streams.{AddsPart}
+use Rattle.mining.specs.Flow.{Mining, last_of, mining_of, most_of}
+use Rattle.mining.specs.Kept.{AllKept, Kept}
+use Rattle.mining.specs.Iterations.{console}
+use Rattle.mining.proofs.AckLemmas.{acks_over, acks_through}
+use Rattle.mining.proofs.EnsureLemmas.{as_same, kept_after, looks_stay}
+use Rattle.mining.proofs.LastLemmas.{most_small}
+use Rattle.mining.proofs.Wholes.{same_state}
+use Rattle.driver.specs.Opening.{HasRun, IsFrom, IsFromThere}
+use Rattle.driver.proofs.Begin.{both_told, if_told}
+use Rattle.driver.proofs.Settling.{same_keeps}
+use Rattle.driver.proofs.Starting.{finished_vectors, from_there, nothing_part}
+use Rattle.driver.proofs.mining_run.mine_settled.Goals as goal
+
+pub returns-in_err-make_ready-clause-kept : goal.returns-in_err-make_ready-clause-kept
+returns-in_err-make_ready-clause-kept g c =
+    first_then (λ bytes. mining_of g.S.Site.gives c.args.conf.now (edges_of c.args.conf.now.nodes bytes).edges) (g.E.Source.left c.args.edges.now) g.S.Dir.tells (c.args.conf.now.form ≡ Base) (g.S.Dir.told c.args.site.now) (g.S.Dir.told c.has.new.site) (g.S.Dir.told c.make_ready.new.site) (λ bytes tells kept. same_keeps (mining_of g.S.Site.gives c.args.conf.now (edges_of c.args.conf.now.nodes bytes).edges) (g.S.Dir.told c.args.site.now) (g.S.Dir.told c.has.new.site) kept (c.has.ensures.stands tells)) c.make_ready.ensures.kept
+
+pub returns-clause-kept : goal.returns-clause-kept
+returns-clause-kept g c =
+    then_last (λ bytes. mining_of g.S.Site.gives c.args.conf.now (edges_of c.args.conf.now.nodes bytes).edges) (g.E.Source.left c.args.edges.now) g.S.Dir.tells (c.args.conf.now.form ≡ Base) (g.S.Dir.told c.args.site.now) (g.S.Dir.told c.make_ready.new.site) (g.S.Dir.told c.go_on.new.site) (first_then (λ bytes. mining_of g.S.Site.gives c.args.conf.now (edges_of c.args.conf.now.nodes bytes).edges) (g.E.Source.left c.args.edges.now) g.S.Dir.tells (c.args.conf.now.form ≡ Base) (g.S.Dir.told c.args.site.now) (g.S.Dir.told c.has.new.site) (g.S.Dir.told c.make_ready.new.site) (λ bytes tells kept. same_keeps (mining_of g.S.Site.gives c.args.conf.now (edges_of c.args.conf.now.nodes bytes).edges) (g.S.Dir.told c.args.site.now) (g.S.Dir.told c.has.new.site) kept (c.has.ensures.stands tells)) c.make_ready.ensures.kept) (λ bytes. c.go_on.ensures.kept (edges_of c.args.conf.now.nodes bytes).edges)
+
+pub returns-in_err-had_first-clause-stays : goal.returns-in_err-had_first-clause-stays
+returns-in_err-had_first-clause-stays g c = λ tells. looks_finished (g.S.Dir.told c.args.site.now) (g.S.Dir.told c.has.new.site) (c.has.ensures.stands tells)
+
+pub returns-in_err-make_ready-clause-stays : goal.returns-in_err-make_ready-clause-stays
+returns-in_err-make_ready-clause-stays g c =
+    λ tells. finished_then (g.S.Dir.told c.args.site.now) (g.S.Dir.told c.has.new.site) (g.S.Dir.told c.make_ready.new.site) (looks_finished (g.S.Dir.told c.args.site.now) (g.S.Dir.told c.has.new.site) (c.has.ensures.stands tells)) (c.make_ready.ensures.stays tells)
+
+pub returns-clause-stays : goal.returns-clause-stays
+returns-clause-stays g c =
+    λ tells.
+    let d = g.S.Dir.told c.args.site.now in
+    finished_then d (g.S.Dir.told c.make_ready.new.site) (g.S.Dir.told c.go_on.new.site) (finished_then d (g.S.Dir.told c.has.new.site) (g.S.Dir.told c.make_ready.new.site) (looks_finished d (g.S.Dir.told c.has.new.site) (c.has.ensures.stands tells)) (c.make_ready.ensures.stays tells)) (c.go_on.ensures.stays tells)
+
+pub returns-in_err-had_first-clause-acked : goal.returns-in_err-had_first-clause-acked
+returns-in_err-had_first-clause-acked g c =
+    λ entry had tells acks. acks_through had entry (g.S.Dir.told c.args.site.now) (g.S.Dir.told c.has.new.site) (g.S.Console.says c.args.site.now) (g.S.Console.says c.has.new.site) c.has.ensures.says (looks_stay (g.S.Dir.told c.args.site.now) (g.S.Dir.told c.has.new.site) (as_same (g.S.Dir.told c.args.site.now) (g.S.Dir.told c.has.new.site) (c.has.ensures.stands tells))) acks
+
+pub returns-in_err-make_ready-clause-acked : goal.returns-in_err-make_ready-clause-acked
+returns-in_err-make_ready-clause-acked g c =
+    λ entry had tells acks. acks_over had entry (g.S.Dir.told c.has.new.site) (g.S.Dir.told c.make_ready.new.site) (g.S.Console.says c.has.new.site) (g.S.Console.says c.make_ready.new.site) c.make_ready.ensures.says (finished_vectors (g.S.Dir.told c.has.new.site) (g.S.Dir.told c.make_ready.new.site) (c.make_ready.ensures.stays tells)) (acks_through had entry (g.S.Dir.told c.args.site.now) (g.S.Dir.told c.has.new.site) (g.S.Console.says c.args.site.now) (g.S.Console.says c.has.new.site) c.has.ensures.says (looks_stay (g.S.Dir.told c.args.site.now) (g.S.Dir.told c.has.new.site) (as_same (g.S.Dir.told c.args.site.now) (g.S.Dir.told c.has.new.site) (c.has.ensures.stands tells))) acks)
+
+pub returns-clause-acked : goal.returns-clause-acked
+returns-clause-acked g c =
+    λ entry had tells acks. c.go_on.ensures.acked entry had tells (acks_over had entry (g.S.Dir.told c.has.new.site) (g.S.Dir.told c.make_ready.new.site) (g.S.Console.says c.has.new.site) (g.S.Console.says c.make_ready.new.site) c.make_ready.ensures.says (finished_vectors (g.S.Dir.told c.has.new.site) (g.S.Dir.told c.make_ready.new.site) (c.make_ready.ensures.stays tells)) (acks_through had entry (g.S.Dir.told c.args.site.now) (g.S.Dir.told c.has.new.site) (g.S.Console.says c.args.site.now) (g.S.Console.says c.has.new.site) c.has.ensures.says (looks_stay (g.S.Dir.told c.args.site.now) (g.S.Dir.told c.has.new.site) (as_same (g.S.Dir.told c.args.site.now) (g.S.Dir.told c.has.new.site) (c.has.ensures.stands tells))) acks))
+
+pub returns-in_err-had_first-clause-part : goal.returns-in_err-had_first-clause-part
+returns-in_err-had_first-clause-part g c =
+    if_told (λ bytes. (k : Option ℕ) (l : ℕ) → g.S.Dir.tells → AllKept (mining_of g.S.Site.gives c.args.conf.now (edges_of c.args.conf.now.nodes bytes).edges) (files (g.S.Dir.told c.args.site.now)) → c.args.conf.now.form ≡ Base → IsFrom (most_of c.args.conf.now c.args.conf.now.command) (files (g.S.Dir.told c.args.site.now)) k → last_of (mining_of g.S.Site.gives c.args.conf.now (edges_of c.args.conf.now.nodes bytes).edges) ≡ Some l → AddsPart (g.S.Console.said c.args.site.now) (g.S.Console.said c.has.new.site) (console (mining_of g.S.Site.gives c.args.conf.now (edges_of c.args.conf.now.nodes bytes).edges) k l)) (g.E.Source.left c.args.edges.now) (λ bytes k l tells kept form from last. nothing_part (g.S.Console.said c.args.site.now) (g.S.Console.said c.has.new.site) (console (mining_of g.S.Site.gives c.args.conf.now (edges_of c.args.conf.now.nodes bytes).edges) k l) c.has.ensures.said)
+
+pub returns-in_err-make_ready-clause-part : goal.returns-in_err-make_ready-clause-part
+returns-in_err-make_ready-clause-part g c =
+    if_told (λ bytes. (k : Option ℕ) (l : ℕ) → g.S.Dir.tells → AllKept (mining_of g.S.Site.gives c.args.conf.now (edges_of c.args.conf.now.nodes bytes).edges) (files (g.S.Dir.told c.args.site.now)) → c.args.conf.now.form ≡ Base → IsFrom (most_of c.args.conf.now c.args.conf.now.command) (files (g.S.Dir.told c.args.site.now)) k → last_of (mining_of g.S.Site.gives c.args.conf.now (edges_of c.args.conf.now.nodes bytes).edges) ≡ Some l → AddsPart (g.S.Console.said c.args.site.now) (g.S.Console.said c.make_ready.new.site) (console (mining_of g.S.Site.gives c.args.conf.now (edges_of c.args.conf.now.nodes bytes).edges) k l)) (g.E.Source.left c.args.edges.now) (λ bytes k l tells kept form from last. nothing_part (g.S.Console.said c.args.site.now) (g.S.Console.said c.make_ready.new.site) (console (mining_of g.S.Site.gives c.args.conf.now (edges_of c.args.conf.now.nodes bytes).edges) k l) (c.make_ready.ensures.said ∙ c.has.ensures.said))
+
+pub returns-clause-part : goal.returns-clause-part
+returns-clause-part g c =
+    both_told (λ bytes. g.S.Dir.tells → AllKept (mining_of g.S.Site.gives c.args.conf.now (edges_of c.args.conf.now.nodes bytes).edges) (files (g.S.Dir.told c.has.new.site)) → c.args.conf.now.form ≡ Base → Through (EachImage (Kept (mining_of g.S.Site.gives c.args.conf.now (edges_of c.args.conf.now.nodes bytes).edges))) (g.S.Dir.told c.has.new.site) (g.S.Dir.told c.make_ready.new.site)) (λ bytes. (k : Option ℕ) (l : ℕ) → g.S.Dir.tells → AllKept (mining_of g.S.Site.gives c.args.conf.now (edges_of c.args.conf.now.nodes bytes).edges) (files (g.S.Dir.told c.args.site.now)) → c.args.conf.now.form ≡ Base → IsFrom (most_of c.args.conf.now c.args.conf.now.command) (files (g.S.Dir.told c.args.site.now)) k → last_of (mining_of g.S.Site.gives c.args.conf.now (edges_of c.args.conf.now.nodes bytes).edges) ≡ Some l → AddsPart (g.S.Console.said c.args.site.now) (g.S.Console.said c.go_on.new.site) (console (mining_of g.S.Site.gives c.args.conf.now (edges_of c.args.conf.now.nodes bytes).edges) k l)) (g.E.Source.left c.args.edges.now) (λ bytes ready k l tells kept form from last.
+    let mining : Mining = mining_of g.S.Site.gives c.args.conf.now (edges_of c.args.conf.now.nodes bytes).edges in
+    let d : Told = (g.S.Dir.told c.args.site.now) in
+    let e : Told = (g.S.Dir.told c.has.new.site) in
+    let f : Told = (g.S.Dir.told c.make_ready.new.site) in
+    let same = same_state d e (c.has.ensures.stands tells) in
+    let kept_e : AllKept mining (files e) = kept_after mining d e kept (same_keeps mining d e kept (c.has.ensures.stands tells)) in
+    let kept_f : AllKept mining (files f) = kept_after mining e f kept_e (ready tells kept_e form) in
+    let there : IsFromThere c.in_ok-had_first.had_first (most_of c.args.conf.now c.args.conf.now.command) (files f) k = from_there mining (most_of c.args.conf.now c.args.conf.now.command) (files e) (files f) k c.in_ok-had_first.had_first (most_small c.args.conf.now c.requires.limits) (λ q. g.met.S.Dir.now_allowed c.has.new.site q tells) (λ q. g.met.S.Dir.now_allowed c.make_ready.new.site q tells) kept_e (c.in_ok-had_first.ensures.yes tells) (c.in_ok-had_first.ensures.no tells) (c.in_ok-make_ready.ensures.sure tells) (c.make_ready.ensures.later tells) (subst (λ (s : State). IsFrom (most_of c.args.conf.now c.args.conf.now.command) s k) (sym same) from) in
+    let said : (g.S.Console.said c.make_ready.new.site) ≡ (g.S.Console.said c.args.site.now) = c.make_ready.ensures.said ∙ c.has.ensures.said in
+    subst (λ (before : Option (List ℕ)). AddsPart before (g.S.Console.said c.go_on.new.site) (console mining k l)) said (c.go_on.ensures.part (edges_of c.args.conf.now.nodes bytes).edges k l tells kept_f form there last)) c.make_ready.ensures.kept
+
+pub returns-clause-done : goal.returns-clause-done
+returns-clause-done g c =
+    both_told (λ bytes. g.S.Dir.tells → AllKept (mining_of g.S.Site.gives c.args.conf.now (edges_of c.args.conf.now.nodes bytes).edges) (files (g.S.Dir.told c.has.new.site)) → c.args.conf.now.form ≡ Base → Through (EachImage (Kept (mining_of g.S.Site.gives c.args.conf.now (edges_of c.args.conf.now.nodes bytes).edges))) (g.S.Dir.told c.has.new.site) (g.S.Dir.told c.make_ready.new.site)) (λ bytes. (k : Option ℕ) → g.S.Dir.tells → AllKept (mining_of g.S.Site.gives c.args.conf.now (edges_of c.args.conf.now.nodes bytes).edges) (files (g.S.Dir.told c.args.site.now)) → c.args.conf.now.form ≡ Base → IsFrom (most_of c.args.conf.now c.args.conf.now.command) (files (g.S.Dir.told c.args.site.now)) k → OnOk c.go_on.result (HasRun (mining_of g.S.Site.gives c.args.conf.now (edges_of c.args.conf.now.nodes bytes).edges) k (g.S.Console.said c.args.site.now) (g.S.Console.said c.go_on.new.site) (files (g.S.Dir.told c.go_on.new.site)))) (g.E.Source.left c.args.edges.now) (λ bytes ready k tells kept form from.
+    let mining : Mining = mining_of g.S.Site.gives c.args.conf.now (edges_of c.args.conf.now.nodes bytes).edges in
+    let d : Told = (g.S.Dir.told c.args.site.now) in
+    let e : Told = (g.S.Dir.told c.has.new.site) in
+    let f : Told = (g.S.Dir.told c.make_ready.new.site) in
+    let same = same_state d e (c.has.ensures.stands tells) in
+    let kept_e : AllKept mining (files e) = kept_after mining d e kept (same_keeps mining d e kept (c.has.ensures.stands tells)) in
+    let kept_f : AllKept mining (files f) = kept_after mining e f kept_e (ready tells kept_e form) in
+    let there : IsFromThere c.in_ok-had_first.had_first (most_of c.args.conf.now c.args.conf.now.command) (files f) k = from_there mining (most_of c.args.conf.now c.args.conf.now.command) (files e) (files f) k c.in_ok-had_first.had_first (most_small c.args.conf.now c.requires.limits) (λ q. g.met.S.Dir.now_allowed c.has.new.site q tells) (λ q. g.met.S.Dir.now_allowed c.make_ready.new.site q tells) kept_e (c.in_ok-had_first.ensures.yes tells) (c.in_ok-had_first.ensures.no tells) (c.in_ok-make_ready.ensures.sure tells) (c.make_ready.ensures.later tells) (subst (λ (s : State). IsFrom (most_of c.args.conf.now c.args.conf.now.command) s k) (sym same) from) in
+    let said : (g.S.Console.said c.make_ready.new.site) ≡ (g.S.Console.said c.args.site.now) = c.make_ready.ensures.said ∙ c.has.ensures.said in
+    subst (λ (before : Option (List ℕ)). OnOk c.go_on.result (HasRun mining k before (g.S.Console.said c.go_on.new.site) (files (g.S.Dir.told c.go_on.new.site)))) said (c.go_on.ensures.done (edges_of c.args.conf.now.nodes bytes).edges k tells kept_f form there)) c.make_ready.ensures.kept

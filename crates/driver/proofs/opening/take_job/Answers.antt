@@ -1,0 +1,55 @@
+use Rattle.driver.proofs.Finished.{finished_then, looks_finished}
+use Rattle.std.proofs.Common.{sym, subst}
+use Rattle.dir_disk.specs.Moments.{EachImage, Through, Told, files}
+use Rattle.edge_text.specs.Edges.{edges_of}
+use Rattle.mining.specs.declared.place.Place.TheVariants.{Edges}
+use Rattle.mining.specs.Flow.{mining_of}
+use Rattle.mining.specs.Kept.{AllKept, Kept}
+use Rattle.mining.specs.Between.{AllFirm, IsSure}
+use Rattle.driver.proofs.Begin.{if_told, taken_kept_else}
+use Rattle.mining.proofs.Wholes.{same_state, same_then}
+use Rattle.driver.proofs.Settling.{same_keeps}
+use Rattle.driver.proofs.TakenUp.{ok_always}
+use Rattle.driver.proofs.Starting.{later_then, same_later}
+use Rattle.driver.proofs.opening.take_job.Goals as goal
+
+pub returns-then-branch-clause-firm : goal.returns-then-branch-clause-firm
+returns-then-branch-clause-firm g c =
+    λ tells. ok_always (AllFirm (files (g.S.Dir.told c.check_job.new.site))) c.check_job.result (subst AllFirm (sym (same_state (g.S.Dir.told c.has.new.site) (g.S.Dir.told c.check_job.new.site) (c.check_job.ensures.stands tells))) (c.has.ensures.firm tells))
+
+pub returns-then-branch-clause-sure : goal.returns-then-branch-clause-sure
+returns-then-branch-clause-sure g c =
+    λ tells. ok_always (IsSure Edges (files (g.S.Dir.told c.check_job.new.site))) c.check_job.result (subst (IsSure Edges) (sym (same_state (g.S.Dir.told c.has.new.site) (g.S.Dir.told c.check_job.new.site) (c.check_job.ensures.stands tells))) (c.in_ok-has.ensures.yes tells c.if-branch.true))
+
+pub returns-then-branch-clause-kept : goal.returns-then-branch-clause-kept
+returns-then-branch-clause-kept g c =
+    let d : Told = g.S.Dir.told c.args.site.now in
+    let f : Told = g.S.Dir.told c.check_job.new.site in
+    if_told (λ bytes. g.S.Dir.tells → AllKept (mining_of g.S.Site.gives c.args.conf.now (edges_of c.args.conf.now.nodes bytes).edges) (files d) → Through (EachImage (Kept (mining_of g.S.Site.gives c.args.conf.now (edges_of c.args.conf.now.nodes bytes).edges))) d f) (g.E.Source.left c.args.edges.now) (λ bytes tells kept. same_keeps (mining_of g.S.Site.gives c.args.conf.now (edges_of c.args.conf.now.nodes bytes).edges) d f kept (same_then d (g.S.Dir.told c.has.new.site) f (c.has.ensures.stands tells) (c.check_job.ensures.stands tells)))
+
+pub returns-else-branch-clause-kept : goal.returns-else-branch-clause-kept
+returns-else-branch-clause-kept g c =
+    taken_kept_else (λ bytes. mining_of g.S.Site.gives c.args.conf.now (edges_of c.args.conf.now.nodes bytes).edges) (g.E.Source.left c.args.edges.now) g.S.Dir.tells (g.S.Dir.told c.args.site.now) (g.S.Dir.told c.has.new.site) (g.S.Dir.told c.begin_job.new.site) c.has.ensures.stands c.begin_job.ensures.kept
+
+pub returns-in_err-has-clause-stays : goal.returns-in_err-has-clause-stays
+returns-in_err-has-clause-stays g c = λ tells. looks_finished (g.S.Dir.told c.args.site.now) (g.S.Dir.told c.has.new.site) (c.has.ensures.stands tells)
+
+pub returns-then-branch-clause-stays : goal.returns-then-branch-clause-stays
+returns-then-branch-clause-stays g c =
+    λ tells. looks_finished (g.S.Dir.told c.args.site.now) (g.S.Dir.told c.check_job.new.site) (same_then (g.S.Dir.told c.args.site.now) (g.S.Dir.told c.has.new.site) (g.S.Dir.told c.check_job.new.site) (c.has.ensures.stands tells) (c.check_job.ensures.stands tells))
+
+pub returns-else-branch-clause-stays : goal.returns-else-branch-clause-stays
+returns-else-branch-clause-stays g c =
+    λ tells. finished_then (g.S.Dir.told c.args.site.now) (g.S.Dir.told c.has.new.site) (g.S.Dir.told c.begin_job.new.site) (looks_finished (g.S.Dir.told c.args.site.now) (g.S.Dir.told c.has.new.site) (c.has.ensures.stands tells)) (c.begin_job.ensures.stays tells)
+
+pub returns-in_err-has-clause-later : goal.returns-in_err-has-clause-later
+returns-in_err-has-clause-later g c =
+    λ tells. same_later (files (g.S.Dir.told c.args.site.now)) (files (g.S.Dir.told c.has.new.site)) (same_state (g.S.Dir.told c.args.site.now) (g.S.Dir.told c.has.new.site) (c.has.ensures.stands tells))
+
+pub returns-then-branch-clause-later : goal.returns-then-branch-clause-later
+returns-then-branch-clause-later g c =
+    λ tells. same_later (files (g.S.Dir.told c.args.site.now)) (files (g.S.Dir.told c.check_job.new.site)) (same_state (g.S.Dir.told c.args.site.now) (g.S.Dir.told c.check_job.new.site) (same_then (g.S.Dir.told c.args.site.now) (g.S.Dir.told c.has.new.site) (g.S.Dir.told c.check_job.new.site) (c.has.ensures.stands tells) (c.check_job.ensures.stands tells)))
+
+pub returns-else-branch-clause-later : goal.returns-else-branch-clause-later
+returns-else-branch-clause-later g c =
+    λ tells. later_then (files (g.S.Dir.told c.args.site.now)) (files (g.S.Dir.told c.has.new.site)) (files (g.S.Dir.told c.begin_job.new.site)) (same_later (files (g.S.Dir.told c.args.site.now)) (files (g.S.Dir.told c.has.new.site)) (same_state (g.S.Dir.told c.args.site.now) (g.S.Dir.told c.has.new.site) (c.has.ensures.stands tells))) (c.begin_job.ensures.later tells)

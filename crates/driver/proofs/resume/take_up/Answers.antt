@@ -1,0 +1,35 @@
+use Rattle.std.proofs.Common.{◌^◌, ◌<◌, arith}
+use Rattle.mining.specs.Flow.{Mining, mining_of}
+use Rattle.mining.proofs.EnsureLemmas.{looks_keep, looks_stay, stays_then}
+use Rattle.driver.proofs.TakenUp.{taken_kept}
+use Rattle.driver.proofs.resume.take_up.Goals as goal
+
+pub returns-in_err-changed-clause-stays : goal.returns-in_err-changed-clause-stays
+returns-in_err-changed-clause-stays g c =
+    λ tells. looks_stay (g.S.Dir.told c.args.site.now) (g.S.Dir.told c.read_count.new.site) (c.read_count.ensures.stands tells)
+
+pub returns-in_err-changed-clause-kept : goal.returns-in_err-changed-clause-kept
+returns-in_err-changed-clause-kept g c =
+    λ edges tells kept sure. looks_keep (mining_of g.S.Site.gives c.args.conf.now edges) (g.S.Dir.told c.args.site.now) (g.S.Dir.told c.read_count.new.site) kept (c.read_count.ensures.stands tells)
+
+pub returns-in_err-drop_messages-clause-stays : goal.returns-in_err-drop_messages-clause-stays
+returns-in_err-drop_messages-clause-stays g c =
+    λ tells. stays_then (g.S.Dir.told c.args.site.now) (g.S.Dir.told c.read_count.new.site) (g.S.Dir.told c.drop_messages.new.site) (looks_stay (g.S.Dir.told c.args.site.now) (g.S.Dir.told c.read_count.new.site) (c.read_count.ensures.stands tells)) (c.drop_messages.ensures.stays tells)
+
+pub returns-in_err-drop_messages-clause-kept : goal.returns-in_err-drop_messages-clause-kept
+returns-in_err-drop_messages-clause-kept g c =
+    λ edges tells kept sure.
+    let mining : Mining = mining_of g.S.Site.gives c.args.conf.now edges in
+    let few : c.args.k < 10 ^ 10 = (let most = c.requires.few in omega (arith, most)) in
+    taken_kept mining c.args.k (g.S.Dir.told c.args.site.now) (g.S.Dir.told c.read_count.new.site) (g.S.Dir.told c.drop_messages.new.site) (λ q. g.met.S.Dir.now_allowed c.read_count.new.site q tells) c.requires.some few kept sure (c.read_count.ensures.stands tells) (λ there next. c.drop_messages.ensures.kept mining tells there next)
+
+pub returns-clause-stays : goal.returns-clause-stays
+returns-clause-stays g c =
+    λ tells. stays_then (g.S.Dir.told c.args.site.now) (g.S.Dir.told c.read_count.new.site) (g.S.Dir.told c.drop_messages.new.site) (looks_stay (g.S.Dir.told c.args.site.now) (g.S.Dir.told c.read_count.new.site) (c.read_count.ensures.stands tells)) (c.drop_messages.ensures.stays tells)
+
+pub returns-clause-kept : goal.returns-clause-kept
+returns-clause-kept g c =
+    λ edges tells kept sure.
+    let mining : Mining = mining_of g.S.Site.gives c.args.conf.now edges in
+    let few : c.args.k < 10 ^ 10 = (let most = c.requires.few in omega (arith, most)) in
+    taken_kept mining c.args.k (g.S.Dir.told c.args.site.now) (g.S.Dir.told c.read_count.new.site) (g.S.Dir.told c.drop_messages.new.site) (λ q. g.met.S.Dir.now_allowed c.read_count.new.site q tells) c.requires.some few kept sure (c.read_count.ensures.stands tells) (λ there next. c.drop_messages.ensures.kept mining tells there next)

@@ -1,0 +1,72 @@
+use Rattle.std.proofs.Common.{◌≡◌, ◌∙◌, ℕ, true, List, map, None, Some, sym, subst}
+use Rattle.std.proofs.lemmas.Bool.{false≢true}
+use Rattle.std.specs.String.{string_bytes}
+use Rattle.conf.specs.Commands.{is_mining}
+use Rattle.conf.specs.declared.reading.Conf.{Conf as Settings}
+use Rattle.driver.proofs.Starting.{acks_begun}
+use Rattle.driver.proofs.RunLemmas.{DoneFor, KeptFor, SaidFor, meant_for, mean_one}
+use Rattle.driver.proofs.running.run.Goals as goal
+
+pub new-source-requires : goal.new-source-requires
+new-source-requires g c =
+    (c.meanings_are_within_limits.ensures _ _ c.in-Ok.ensures.accepted).nodes.0
+
+pub run_over-requires-clause-limits : goal.run_over-requires-clause-limits
+run_over-requires-clause-limits g c =
+    c.meanings_are_within_limits.ensures _ _ c.in-Ok.ensures.accepted
+
+pub run_over-requires-in-None-clause-limits : goal.run_over-requires-in-None-clause-limits
+run_over-requires-in-None-clause-limits g c =
+    c.meanings_are_within_limits.ensures _ _ c.in-Ok.ensures.accepted
+
+pub returns-in-Some-clause-kept : goal.returns-in-Some-clause-kept
+returns-in-Some-clause-kept g c =
+    λ conf mean. meant_for (KeptFor g.S.Site.gives g.S.Dir.tells (g.S.Dir.told c.args.site.now) (g.S.Dir.told c.run_over.new.site)) (map string_bytes c.args.words.now) (g.E.Source.left c.args.edges.now) (Some (c.in-Some.count, c.in-Some.seed)) c.in-Ok.conf conf c.in-Ok.ensures.accepted mean c.in-Some.is (subst (λ (text : List ℕ). KeptFor g.S.Site.gives g.S.Dir.tells (g.S.Dir.told c.args.site.now) (g.S.Dir.told c.run_over.new.site) c.in-Ok.conf (Some text)) c.new-source.ensures c.run_over.ensures.kept)
+
+pub returns-in-None-clause-kept : goal.returns-in-None-clause-kept
+returns-in-None-clause-kept g c =
+    λ conf mean. meant_for (KeptFor g.S.Site.gives g.S.Dir.tells (g.S.Dir.told c.args.site.now) (g.S.Dir.told c.run_over-in-None.new.site)) (map string_bytes c.args.words.now) (g.E.Source.left c.args.edges.now) None c.in-Ok.conf conf c.in-Ok.ensures.accepted mean c.in-None.is c.run_over-in-None.ensures.kept
+
+pub returns-in-Some-clause-said : goal.returns-in-Some-clause-said
+returns-in-Some-clause-said g c =
+    λ conf mean. meant_for (SaidFor g.S.Site.gives g.S.Dir.tells (g.S.Dir.told c.args.site.now) (g.S.Console.said c.args.site.now) (g.S.Console.said c.run_over.new.site)) (map string_bytes c.args.words.now) (g.E.Source.left c.args.edges.now) (Some (c.in-Some.count, c.in-Some.seed)) c.in-Ok.conf conf c.in-Ok.ensures.accepted mean c.in-Some.is (subst (λ (text : List ℕ). SaidFor g.S.Site.gives g.S.Dir.tells (g.S.Dir.told c.args.site.now) (g.S.Console.said c.args.site.now) (g.S.Console.said c.run_over.new.site) c.in-Ok.conf (Some text)) c.new-source.ensures c.run_over.ensures.part)
+
+pub returns-in-None-clause-said : goal.returns-in-None-clause-said
+returns-in-None-clause-said g c =
+    λ conf mean. meant_for (SaidFor g.S.Site.gives g.S.Dir.tells (g.S.Dir.told c.args.site.now) (g.S.Console.said c.args.site.now) (g.S.Console.said c.run_over-in-None.new.site)) (map string_bytes c.args.words.now) (g.E.Source.left c.args.edges.now) None c.in-Ok.conf conf c.in-Ok.ensures.accepted mean c.in-None.is c.run_over-in-None.ensures.part
+
+pub returns-in-Some-clause-done : goal.returns-in-Some-clause-done
+returns-in-Some-clause-done g c =
+    λ conf mean. meant_for (DoneFor g.S.Site.gives g.S.Dir.tells (g.S.Dir.told c.args.site.now) (g.S.Dir.told c.run_over.new.site) (g.S.Console.said c.args.site.now) (g.S.Console.said c.run_over.new.site) c.run_over.result) (map string_bytes c.args.words.now) (g.E.Source.left c.args.edges.now) (Some (c.in-Some.count, c.in-Some.seed)) c.in-Ok.conf conf c.in-Ok.ensures.accepted mean c.in-Some.is (subst (λ (text : List ℕ). DoneFor g.S.Site.gives g.S.Dir.tells (g.S.Dir.told c.args.site.now) (g.S.Dir.told c.run_over.new.site) (g.S.Console.said c.args.site.now) (g.S.Console.said c.run_over.new.site) c.run_over.result c.in-Ok.conf (Some text)) c.new-source.ensures c.run_over.ensures.done)
+
+pub returns-in-None-clause-done : goal.returns-in-None-clause-done
+returns-in-None-clause-done g c =
+    λ conf mean. meant_for (DoneFor g.S.Site.gives g.S.Dir.tells (g.S.Dir.told c.args.site.now) (g.S.Dir.told c.run_over-in-None.new.site) (g.S.Console.said c.args.site.now) (g.S.Console.said c.run_over-in-None.new.site) c.run_over-in-None.result) (map string_bytes c.args.words.now) (g.E.Source.left c.args.edges.now) None c.in-Ok.conf conf c.in-Ok.ensures.accepted mean c.in-None.is c.run_over-in-None.ensures.done
+
+pub returns-then-ne-clause-acked : goal.returns-then-ne-clause-acked
+returns-then-ne-clause-acked g c =
+    λ conf had mean mines tells is. acks_begun had (g.S.Dir.told c.args.site.now) (g.S.Dir.told c.args.site.now) (g.S.Console.says c.args.site.now) is
+
+pub returns-in-Some-clause-usage : goal.returns-in-Some-clause-usage
+returns-in-Some-clause-usage g c =
+    λ word least. absurd (false≢true (sym (c.in-Ok.ensures.accepted.accepted word) ∙ least.refused))
+
+pub returns-in-Some-clause-untouched : goal.returns-in-Some-clause-untouched
+returns-in-Some-clause-untouched g c =
+    λ word is. absurd (c.run_over.ensures.no_usage word is)
+
+pub returns-in-Some-clause-refused : goal.returns-in-Some-clause-refused
+returns-in-Some-clause-refused g c =
+    λ word is. absurd (c.run_over.ensures.no_usage word is)
+
+pub returns-in-Some-clause-acked : goal.returns-in-Some-clause-acked
+returns-in-Some-clause-acked g c =
+    λ conf had mean mines tells is. c.run_over.ensures.acked (subst (λ (read : Settings). is_mining read.command ≡ true) (mean_one (map string_bytes c.args.words.now) conf c.in-Ok.conf mean c.in-Ok.ensures.accepted) mines) had tells is
+
+pub returns-in-None-clause-refused : goal.returns-in-None-clause-refused
+returns-in-None-clause-refused g c =
+    λ word is. absurd (c.run_over-in-None.ensures.no_usage word is)
+
+pub returns-in-None-clause-acked : goal.returns-in-None-clause-acked
+returns-in-None-clause-acked g c =
+    λ conf had mean mines tells is. c.run_over-in-None.ensures.acked (subst (λ (read : Settings). is_mining read.command ≡ true) (mean_one (map string_bytes c.args.words.now) conf c.in-Ok.conf mean c.in-Ok.ensures.accepted) mines) had tells is

@@ -1,0 +1,40 @@
+use Rattle.std.proofs.Common.{◌∙◌, sym, ap, subst}
+use Rattle.std.proofs.lemmas.Bool.{false≢true}
+use Rattle.dir_disk.specs.Moments.{EachImage, Through, Told, files}
+use Rattle.dir_disk.proofs.Through.{started}
+use Rattle.conf.specs.Commands.{is_mining}
+use Rattle.driver.specs.Opening.{HasVectors, StaysOne}
+use Rattle.driver.proofs.RunLemmas.{mines_other, none_stay}
+use Rattle.driver.proofs.running.run_over.Goals as goal
+
+pub returns-in-Plain-clause-steady_disk : goal.returns-in-Plain-clause-steady_disk
+returns-in-Plain-clause-steady_disk g c =
+    λ other. (g.met.S.Site.beside_console c.label_nodes.new.console c.args.site.now c.label_nodes.ensures.beside).3
+
+pub returns-in-Plain-clause-stays : goal.returns-in-Plain-clause-stays
+returns-in-Plain-clause-stays g c =
+    λ tells. subst (λ (t : Told). StaysOne (files (g.S.Dir.told c.args.site.now)) (files t)) (sym ((g.met.S.Site.beside_console c.label_nodes.new.console c.args.site.now c.label_nodes.ensures.beside).1 tells).1) (none_stay (files (g.S.Dir.told c.args.site.now)))
+
+pub returns-in-Plain-clause-vectors : goal.returns-in-Plain-clause-vectors
+returns-in-Plain-clause-vectors g c =
+    λ tells. subst (λ (t : Told). Through (EachImage (HasVectors (files (g.S.Dir.told c.args.site.now)))) (g.S.Dir.told c.args.site.now) t) (sym ((g.met.S.Site.beside_console c.label_nodes.new.console c.args.site.now c.label_nodes.ensures.beside).1 tells).1) (started (EachImage (HasVectors (files (g.S.Dir.told c.args.site.now)))) (g.S.Dir.told c.args.site.now))
+
+pub returns-in-Plain-clause-kept : goal.returns-in-Plain-clause-kept
+returns-in-Plain-clause-kept g c =
+    λ mines. absurd (false≢true (sym (ap is_mining c.in-Plain.is) ∙ mines))
+
+pub returns-in-Plain-clause-acked : goal.returns-in-Plain-clause-acked
+returns-in-Plain-clause-acked g c =
+    λ mines. absurd (false≢true (sym (ap is_mining c.in-Plain.is) ∙ mines))
+
+pub returns-in-Plain-clause-part : goal.returns-in-Plain-clause-part
+returns-in-Plain-clause-part g c =
+    λ mines. absurd (false≢true (sym (ap is_mining c.in-Plain.is) ∙ mines))
+
+pub returns-in-Plain-clause-done : goal.returns-in-Plain-clause-done
+returns-in-Plain-clause-done g c =
+    λ mines. absurd (false≢true (sym (ap is_mining c.in-Plain.is) ∙ mines))
+
+pub run_mining-requires-clause-mines : goal.run_mining-requires-clause-mines
+run_mining-requires-clause-mines g c =
+    mines_other c.args.conf.now.command c.in_default.not-Plain
