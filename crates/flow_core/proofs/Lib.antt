@@ -1,0 +1,14 @@
+pub mod Keys
+pub mod Groups
+pub mod InParts
+pub mod Items
+pub mod Nodes
+pub mod PairKeys
+pub mod Records
+pub mod Folders
+pub mod MapPhase
+pub mod Jobs
+pub mod Joins
+pub mod Steps
+pub mod Rows
+pub mod Renaming
