@@ -1,0 +1,22 @@
+-- The lines of the base form as pairs.
+use Rattle.std.proofs.Common.{ℕ, ◌∷◌, ◌++◌, decimal}
+use Rattle.graph.specs.Entries.{Entry}
+use Rattle.graph.specs.Steps.{Vector}
+use Rattle.gimv_core.specs.Algebras.{Algebra}
+use Rattle.pairs.specs.Pairs.{Pair}
+
+-- an entry, by its column: its row and its weight, which this function gives as a number
+abbrev pub entry_pair : {Weight : Type 0} → (Weight → ℕ) → Entry Weight → Pair
+entry_pair number e = (decimal e.column, 87 ∷ 32 ∷ (decimal e.row ++ (32 ∷ decimal (number e.weight))))
+
+-- what an entry passes on, by its row
+abbrev pub message_pair : {Val Msg Weight : Type 0} → Algebra Val Msg Weight → Vector Val → Entry Weight → Pair
+message_pair a v e = (decimal e.row, 89 ∷ 32 ∷ a.msg_text (a.algorithm.combine2 e.weight (v e.column)))
+
+-- a node's value, and whether it counts as changed
+abbrev pub node_pair : {Val Msg Weight : Type 0} → Algebra Val Msg Weight → (ℕ → ℕ) → Vector Val → ℕ → Pair
+node_pair a changes v node = (decimal node, 86 ∷ 32 ∷ (decimal (changes node) ++ (32 ∷ a.val_text (v node))))
+
+-- a place and the node there, which in the base form is the place
+abbrev pub place_pair : ℕ → Pair
+place_pair node = (decimal node, 80 ∷ 32 ∷ decimal node)

@@ -1,0 +1,102 @@
+-- The words of a folder's jobs name the roles that the base form needs.
+use Rattle.std.proofs.Common.{◌≡◌, refl, ap, ◌∙◌, Bool, true, false, ℕ, ◌<◌, ◌≤◌, ◌^◌, List, [], ◌∷◌, codes, decimal, leb, Option, Some, option_map, option_and_then, arith}
+use Rattle.std.proofs.lemmas.Bool.{cond-true, le-leb, and_from}
+use Rattle.peg_text.proofs.DecimalLemmas.{decimals_read_back}
+use Rattle.words.specs.Words.{within}
+use Rattle.gimv_base.specs.BaseRules.{id_rule, entries_rule, degrees_rule}
+use Rattle.hcc.specs.Components.{hcc_algebra}
+use Rattle.pagerank.specs.Ranks.{page_rank_algebra}
+use Rattle.hadi.specs.Hadi.{hadi_algebra}
+use Rattle.child.specs.declared.kinds.Algorithm.{Algorithm}
+use Rattle.child.specs.declared.kinds.Algorithm.TheVariants.{Hcc, PageRank, Hadi}
+use Rattle.child.specs.declared.kinds.NodeRole.{NodeRole}
+use Rattle.child.specs.declared.kinds.NodeRole.TheVariants.{First, Stage1, Stage2, Number}
+use Rattle.child.specs.declared.kinds.Kind.TheVariants.{Nodes}
+use Rattle.child.specs.Words.{algorithm_of, node_role_of, node_count_of, rule_of, rule_over_nodes, rule_of_kind}
+use Rattle.conf.specs.declared.commands.Command.{Command}
+use Rattle.conf.specs.declared.commands.Command.TheVariants.{Hcc as OfHcc, PageRank as OfPageRank, Hadi as OfHadi}
+use Rattle.conf.specs.declared.reading.Conf.{Conf}
+use Rattle.mining.specs.Table.{algorithm_word, over_nodes, id_role, matrix_map, matrix_reduce}
+use Rattle.flow_core.specs.Following.{Giving, Follows}
+use Rattle.flow.specs.Roles.{RoleWords, FollowsRoles}
+use Rattle.flow.specs.Children.{FollowsChildren}
+
+node_count_back : (n : ℕ) → 1 ≤ n → n ≤ 2 ^ 30 → node_count_of (decimal n) ≡ Some n
+node_count_back n some few =
+    ap (option_and_then (within 1 (2 ^ 30))) (decimals_read_back n (omega arith)) ∙ cond-true _ _ _ (and_from (leb 1 n) (leb n (2 ^ 30)) (le-leb 1 n some) (le-leb n (2 ^ 30) few))
+
+-- a role's word, an algorithm's and a number of nodes
+role_rule : (role : NodeRole) (word : List ℕ) → node_role_of word ≡ Some role → (algorithm : Algorithm) (text : List ℕ) → algorithm_of text ≡ Some algorithm → (n : ℕ) → 1 ≤ n → n ≤ 2 ^ 30
+    → rule_of (word ∷ text ∷ decimal n ∷ []) ≡ Some (rule_over_nodes role algorithm n)
+role_rule role word role_is algorithm text algorithm_is n some few =
+    ap (option_map rule_of_kind)
+    (ap (λ (found : Option NodeRole). option_and_then (λ r. option_and_then (λ a. option_map (λ m. Nodes r a m) (node_count_of (decimal n))) (algorithm_of text)) found) role_is
+    ∙ ap (λ (found : Option Algorithm). option_and_then (λ a. option_map (λ m. Nodes role a m) (node_count_of (decimal n))) found) algorithm_is
+    ∙ ap (option_map (λ m. Nodes role algorithm m)) (node_count_back n some few))
+
+-- the first word of each child
+abbrev pub with_program : List (List ℕ) → List (List ℕ)
+with_program words = codes "pegchild" ∷ words
+
+-- the words of the base form's roles
+abbrev pub words_for : Conf → RoleWords
+words_for conf =
+    record {
+      copy = with_program id_role;
+      first = with_program (over_nodes conf (codes "first"));
+      stage1 = with_program (over_nodes conf (codes "stage1"));
+      stage2 = with_program (over_nodes conf (codes "stage2"));
+      number = with_program (over_nodes conf (codes "number"));
+    }
+
+module _ (gives : Giving) (children : FollowsChildren gives) where
+  pub copies : Follows gives (with_program id_role) id_rule
+  copies = children (with_program id_role) id_rule refl
+
+  module _ (conf : Conf) (some : 1 ≤ conf.nodes) (few : conf.nodes ≤ 2 ^ 30) (command : Command) (is : conf.command ≡ command)
+      (algorithm : Algorithm) (algorithm_is : algorithm_of (algorithm_word conf command) ≡ Some algorithm) where
+    follows_role : (role : NodeRole) (word : List ℕ) → node_role_of word ≡ Some role → Follows gives (with_program (over_nodes conf word)) (rule_over_nodes role algorithm conf.nodes)
+    follows_role role word role_is =
+        children (with_program (over_nodes conf word)) (rule_over_nodes role algorithm conf.nodes)
+        (ap (λ (c : Command). rule_of (word ∷ algorithm_word conf c ∷ decimal conf.nodes ∷ [])) is ∙ role_rule role word role_is algorithm (algorithm_word conf command) algorithm_is conf.nodes some few)
+
+  module _ (conf : Conf) (some : 1 ≤ conf.nodes) (few : conf.nodes ≤ 2 ^ 30) where
+    pub follows_hcc : conf.command ≡ OfHcc → FollowsRoles gives hcc_algebra conf.nodes (words_for conf)
+    follows_hcc is = record {
+      copy = copies;
+      first = follows_role conf some few OfHcc is Hcc refl First (codes "first") refl;
+      stage1 = follows_role conf some few OfHcc is Hcc refl Stage1 (codes "stage1") refl;
+      stage2 = follows_role conf some few OfHcc is Hcc refl Stage2 (codes "stage2") refl;
+      number = follows_role conf some few OfHcc is Hcc refl Number (codes "number") refl;
+    }
+
+    pub follows_page_rank : conf.command ≡ OfPageRank → FollowsRoles gives (page_rank_algebra conf.nodes) conf.nodes (words_for conf)
+    follows_page_rank is = record {
+      copy = copies;
+      first = follows_role conf some few OfPageRank is PageRank refl First (codes "first") refl;
+      stage1 = follows_role conf some few OfPageRank is PageRank refl Stage1 (codes "stage1") refl;
+      stage2 = follows_role conf some few OfPageRank is PageRank refl Stage2 (codes "stage2") refl;
+      number = follows_role conf some few OfPageRank is PageRank refl Number (codes "number") refl;
+    }
+
+    pub follows_hadi : conf.command ≡ OfHadi → conf.seed < 2 ^ 64 → FollowsRoles gives (hadi_algebra conf.seed) conf.nodes (words_for conf)
+    follows_hadi is small =
+        let named : algorithm_of (algorithm_word conf OfHadi) ≡ Some (Hadi conf.seed) = ap (option_map Hadi) (decimals_read_back conf.seed small) in record {
+          copy = copies;
+          first = follows_role conf some few OfHadi is (Hadi conf.seed) named First (codes "first") refl;
+          stage1 = follows_role conf some few OfHadi is (Hadi conf.seed) named Stage1 (codes "stage1") refl;
+          stage2 = follows_role conf some few OfHadi is (Hadi conf.seed) named Stage2 (codes "stage2") refl;
+          number = follows_role conf some few OfHadi is (Hadi conf.seed) named Number (codes "number") refl;
+        }
+
+  -- ---- the matrix
+
+  pub follows_both : Follows gives (with_program (matrix_map OfHcc true)) (entries_rule true)
+  follows_both = children (with_program (matrix_map OfHcc true)) (entries_rule true) refl
+
+  pub follows_sides : (both : Bool) → Follows gives (with_program (matrix_map OfHadi both)) (entries_rule both)
+  follows_sides true = children (with_program (matrix_map OfHadi true)) (entries_rule true) refl
+  follows_sides false = children (with_program (matrix_map OfHadi false)) (entries_rule false) refl
+
+  pub follows_degrees : Follows gives (with_program (matrix_reduce OfPageRank)) degrees_rule
+  follows_degrees = children (with_program (matrix_reduce OfPageRank)) degrees_rule refl

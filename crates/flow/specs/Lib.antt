@@ -1,0 +1,6 @@
+pub mod Layouts
+pub mod Roles
+pub mod Children
+pub mod Iterates
+pub mod Laws
+pub mod Examples
