@@ -24,19 +24,19 @@ use Rattle.mining.specs.Flow.{mining_of, flow, count_of, changes_in, last_of, to
 use Rattle.mining.proofs.Flows.{vector_flow}
 use Rattle.flow_core.specs.Following.{Giving}
 use Rattle.flow_core.specs.Jobs.{job_by}
-use Rattle.flow.specs.Layouts.{Sequence, sequence, layout, result_parts, changed_in}
-use Rattle.flow.specs.Roles.{FollowsRoles}
+use Rattle.flow_base.specs.Layouts.{Sequence, sequence, layout, result_parts, changed_in}
+use Rattle.flow_base.specs.Roles.{FollowsRoles}
 use Rattle.flow.specs.Children.{FollowsChildren}
 use Rattle.flow.specs.Iterates.{IsBaseRun, iterates_by, iterates_of, total_by}
 use Rattle.flow.specs.Laws.{AreCountable, BaseFlow}
-use Rattle.flow.proofs.Matrices.{one_number}
-use Rattle.flow.proofs.MatrixFolders.{HasMatrix, same_matrix, one_matrix, rank_matrix}
-use Rattle.flow.proofs.SomeTexts.{decimal_some, one_back, words_some}
-use Rattle.flow.proofs.Chain.{layouts_are, heads_hold, changes_few, vectors_fit, number_small, numbers_hold, results_are}
+use Rattle.flow_base.proofs.MatrixFolders.{same_matrix, one_matrix, rank_matrix}
+use Rattle.flow_base.proofs.SomeTexts.{decimal_some, one_back, words_some}
+use Rattle.flow_base.proofs.Chain.{layouts_are, heads_hold, changes_few, vectors_fit, number_small, numbers_hold, results_are}
 use Rattle.flow.proofs.CountsBack.{count_of_layout}
 use Rattle.flow.proofs.TotalsBack.{total_of_result}
 use Rattle.flow.proofs.WordsBack.{with_program, words_for, copies, follows_hcc, follows_page_rank, follows_hadi, follows_both, follows_sides, follows_degrees}
 use Rattle.flow.proofs.Table.{cut_of, matrix_made, first_made, next_made, result_made}
+use Rattle.flow_base.specs.Matrices.{HasMatrix, one_number}
 
 -- what the flow has, of a sequence of vectors
 pub record HasSequence (gives : Giving) (conf : Conf) (edges : List Edge) (s : Sequence) : Type 0 where

@@ -20,9 +20,9 @@ use Rattle.list_laws.proofs.Alls.{all_each}
 use Rattle.list_laws.proofs.Ranges.{all_below}
 use Rattle.list_laws.proofs.Sums.{sum_agree, sum-of_map, ones}
 use Rattle.flow_core.specs.Holding.{Holds, record_of}
-use Rattle.flow.specs.Layouts.{Sequence, sequence, value_pair, layout, changed_in}
-use Rattle.flow.proofs.RecordsBack.{number_back}
-use Rattle.flow.proofs.Blanks.{around_blank-is}
+use Rattle.flow_base.specs.Layouts.{Sequence, sequence, value_pair, layout, changed_in}
+use Rattle.flow_base.proofs.RecordsBack.{number_back}
+use Rattle.flow_base.proofs.Blanks.{around_blank-is}
 use Rattle.flow.proofs.Reading.{good_held, sum_held}
 
 count_some : (count text : List ℕ) → (text ≡ [] → ⊥) → count_of (count, text) ≡ number_below 257 count

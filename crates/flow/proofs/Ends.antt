@@ -19,7 +19,7 @@ use Rattle.list_laws.proofs.Images.{map_agree}
 use Rattle.list_laws.proofs.Ranges.{all_below}
 use Rattle.flow_core.specs.Following.{Giving}
 use Rattle.flow_core.specs.Parts.{parts_with}
-use Rattle.flow.specs.Layouts.{number_pair, result_parts, changed_in}
+use Rattle.flow_base.specs.Layouts.{number_pair, result_parts, changed_in}
 use Rattle.flow.specs.Children.{FollowsChildren, BundledFollow, given_by}
 use Rattle.flow.specs.Iterates.{IsBaseRun, iterates_by, result_of, changed_of, total_after, EndsAt, IsLast, LastIsOne}
 use Rattle.flow.specs.Laws.{AreCountable, HasResult, BaseResult, ComponentsEnd, RanksEnd, parts_of_numbers}

@@ -5,7 +5,7 @@ use Rattle.std.proofs.lemmas.Fmt.{decimal_digit}
 use Rattle.std.proofs.lemmas.List.Elements.{All-nil, All-cons}
 use Rattle.graph.specs.declared.edges.Edge.{Edge}
 use Rattle.graph.specs.Examples.{from_to, three_edges}
-use Rattle.flow.specs.Layouts.{result_parts}
+use Rattle.flow_base.specs.Layouts.{result_parts}
 use Rattle.flow.specs.Children.{bundled}
 use Rattle.flow.specs.Iterates.{IsBaseRun, IsLast, changed_of, result_of, total_after}
 use Rattle.flow.specs.Laws.{AreCountable}

@@ -1,11 +1,3 @@
-pub mod Lines
-pub mod Blanks
-pub mod RecordsBack
-pub mod Stages
-pub mod Matrices
-pub mod Chain
-pub mod MatrixFolders
-pub mod SomeTexts
 pub mod Reading
 pub mod CountsBack
 pub mod TotalsBack

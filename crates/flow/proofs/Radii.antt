@@ -13,7 +13,7 @@ use Rattle.mining.specs.Flow.{most_of}
 use Rattle.list_laws.proofs.Images.{map_agree}
 use Rattle.list_laws.proofs.Ranges.{all_below}
 use Rattle.flow_core.specs.Parts.{parts_with}
-use Rattle.flow.specs.Layouts.{number_pair, result_parts}
+use Rattle.flow_base.specs.Layouts.{number_pair, result_parts}
 use Rattle.flow.specs.Iterates.{iterates_by}
 use Rattle.flow.specs.Laws.{RadiiEnd}
 use Rattle.flow.proofs.Ends.{has_result}

@@ -18,7 +18,7 @@ use Rattle.mining.specs.Flow.{total_in, records_from}
 use Rattle.list_laws.proofs.Ranges.{all_below}
 use Rattle.list_laws.proofs.Sums.{sum_agree, sum-of_map}
 use Rattle.flow_core.specs.Holding.{Holds, record_of}
-use Rattle.flow.specs.Layouts.{Sequence, number_pair, result_parts}
+use Rattle.flow_base.specs.Layouts.{Sequence, number_pair, result_parts}
 use Rattle.flow.specs.Iterates.{total_by}
 use Rattle.flow.proofs.Reading.{good_held, sum_held, most_held}
 

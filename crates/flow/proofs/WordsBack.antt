@@ -18,7 +18,7 @@ use Rattle.conf.specs.declared.commands.Command.TheVariants.{Hcc as OfHcc, PageR
 use Rattle.conf.specs.declared.reading.Conf.{Conf}
 use Rattle.mining.specs.Table.{algorithm_word, over_nodes, id_role, matrix_map, matrix_reduce}
 use Rattle.flow_core.specs.Following.{Giving, Follows}
-use Rattle.flow.specs.Roles.{RoleWords, FollowsRoles}
+use Rattle.flow_base.specs.Roles.{RoleWords, FollowsRoles}
 use Rattle.flow.specs.Children.{FollowsChildren}
 
 node_count_back : (n : ℕ) → 1 ≤ n → n ≤ 2 ^ 30 → node_count_of (decimal n) ≡ Some n

@@ -6,7 +6,7 @@ use Rattle.conf.specs.declared.commands.Form.TheVariants.{Base}
 use Rattle.conf.specs.declared.reading.Conf.{Conf}
 use Rattle.mining.specs.declared.place.Place.TheVariants.{Vector, Results}
 use Rattle.mining.specs.Flow.{Mining, mining_of, count_of, flow, last_of, total_in}
-use Rattle.flow.specs.Layouts.{Sequence, layout, result_parts}
+use Rattle.flow_base.specs.Layouts.{Sequence, layout, result_parts}
 use Rattle.flow.specs.Children.{bundled}
 use Rattle.flow.specs.Iterates.{changed_of, iterates_by}
 

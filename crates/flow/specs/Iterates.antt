@@ -13,7 +13,7 @@ use Rattle.conf.specs.declared.commands.Form.TheVariants.{Base}
 use Rattle.conf.specs.declared.reading.Conf.{Conf}
 use Rattle.conf.specs.Commands.{is_mining}
 use Rattle.conf.specs.Limits.{IsWithinLimits}
-use Rattle.flow.specs.Layouts.{Sequence, sequence, layout, result_parts, changed_in}
+use Rattle.flow_base.specs.Layouts.{Sequence, sequence, layout, result_parts, changed_in}
 
 -- a run of the base form
 pub record IsBaseRun (conf : Conf) : Type 0 where

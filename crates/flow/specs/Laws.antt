@@ -15,7 +15,7 @@ use Rattle.mining.specs.declared.place.Place.TheVariants.{Vector, Results}
 use Rattle.mining.specs.Flow.{mining_of, flow, count_of, last_of, most_of, total_in}
 use Rattle.flow_core.specs.Following.{Giving}
 use Rattle.flow_core.specs.Parts.{parts_with}
-use Rattle.flow.specs.Layouts.{changed_in, sequence}
+use Rattle.flow_base.specs.Layouts.{changed_in, sequence}
 use Rattle.flow.specs.Children.{FollowsChildren}
 use Rattle.flow.specs.Iterates.{IsBaseRun, IsLast, layout_of, result_of, changed_of, total_after}
 

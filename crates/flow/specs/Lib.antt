@@ -1,5 +1,3 @@
-pub mod Layouts
-pub mod Roles
 pub mod Children
 pub mod Iterates
 pub mod Laws

@@ -5,10 +5,6 @@ use Rattle.graph.specs.Steps.{Vector}
 use Rattle.gimv_core.specs.Algebras.{Algebra}
 use Rattle.pairs.specs.Pairs.{Pair}
 
--- an entry, by its column: its row and its weight, which this function gives as a number
-abbrev pub entry_pair : {Weight : Type 0} → (Weight → ℕ) → Entry Weight → Pair
-entry_pair number e = (decimal e.column, 87 ∷ 32 ∷ (decimal e.row ++ (32 ∷ decimal (number e.weight))))
-
 -- what an entry passes on, by its row
 abbrev pub message_pair : {Val Msg Weight : Type 0} → Algebra Val Msg Weight → Vector Val → Entry Weight → Pair
 message_pair a v e = (decimal e.row, 89 ∷ 32 ∷ a.msg_text (a.algorithm.combine2 e.weight (v e.column)))

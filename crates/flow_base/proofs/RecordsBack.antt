@@ -13,7 +13,7 @@ use Rattle.pairs.specs.Pairs.{IsPlain, pairs_text}
 use Rattle.std.specs.List.{range_with_len}
 use Rattle.std.proofs.Common.{map}
 use Rattle.std.proofs.lemmas.List.Elements.{All-cons}
-use Rattle.flow.proofs.Lines.{place_pair}
+use Rattle.flow_base.proofs.Lines.{place_pair}
 use Rattle.flow_core.specs.Holding.{record_of}
 use Rattle.flow_core.proofs.Records.{pairs_text-map}
 

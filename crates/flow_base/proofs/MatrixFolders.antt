@@ -23,17 +23,11 @@ use Rattle.gimv_base.specs.BaseRules.{id_rule, entries_rule, degrees_rule}
 use Rattle.flow_core.specs.Following.{Giving, Follows}
 use Rattle.flow_core.specs.Jobs.{Cut, job_by}
 use Rattle.flow_core.specs.Holding.{Holds}
-use Rattle.flow.proofs.Lines.{entry_pair}
-use Rattle.flow.proofs.Stages.{Weighs, entry_plain}
+use Rattle.flow_base.proofs.Stages.{entry_plain}
 use Rattle.flow_core.proofs.Folders.{holds_parts}
-use Rattle.flow.proofs.Matrices.{one_number, short_edges, entries_are, degrees_hold}
+use Rattle.flow_base.proofs.Matrices.{short_edges, entries_are, degrees_hold}
 use Rattle.list_laws.proofs.Alls.{all_both}
-
--- a folder that holds the entries of a matrix over n nodes, with their weights as numbers
-pub record HasMatrix {Val Msg Weight : Type 0} (a : Algebra Val Msg Weight) (number : Weight → ℕ) (n : ℕ) (entries : List (Entry Weight)) (texts : List (List ℕ)) : Type 0 where
-  pub good : All (λ e. EntryFits a (first_nodes n) e × Weighs a number e) entries
-  pub heavy : All (λ e. 1 ≤ number e.weight) entries
-  pub holds : Holds texts (map (entry_pair number) entries)
+use Rattle.flow_base.specs.Matrices.{HasMatrix, Weighs, entry_pair, one_number}
 
 pub same_matrix : {Val Msg Weight : Type 0} (a : Algebra Val Msg Weight) (number : Weight → ℕ) (n : ℕ) (entries : List (Entry Weight)) (texts others : List (List ℕ)) → texts ≡ others → HasMatrix a number n entries texts → HasMatrix a number n entries others
 same_matrix a number n entries texts others is has = subst (HasMatrix a number n entries) is has

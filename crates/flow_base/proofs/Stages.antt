@@ -21,11 +21,12 @@ use Rattle.gimv_base.specs.Records.{value_record_of, entry_record_of, message_re
 use Rattle.gimv_base.specs.BaseRules.{passed_line}
 use Rattle.gimv_base.proofs.ReadBackLemmas.{values_read_back, entries_read_back, messages_read_back}
 use Rattle.pairs.specs.Pairs.{Pair, IsPlain, bytes_cmp, pair_before, pairs_text}
-use Rattle.flow.proofs.Lines.{message_pair, entry_pair, node_pair}
+use Rattle.flow_base.proofs.Lines.{message_pair, node_pair}
 use Rattle.list_laws.proofs.Alls.{all_right}
 use Rattle.flow_core.specs.Holding.{record_of}
 use Rattle.flow_core.proofs.Nodes.{items_at, sorted_at, sorted_at_permuted}
 use Rattle.flow_core.proofs.Joins.{Joins}
+use Rattle.flow_base.specs.Matrices.{Weighs, entry_pair}
 
 -- a pair whose key is a node's
 pub plain_from : (p : Pair) (i : ℕ) → p.0 ≡ decimal i → i < 2 ^ 64 → HasNoLf (record_of p) → IsPlain p
@@ -41,11 +42,6 @@ pub before_by_values : (p q : Pair) → p.0 ≡ q.0 → is_le (bytes_cmp p.1 q.1
 before_by_values p q same le =
     let tied = subst (λ (k : List ℕ). bytes_cmp p.0 k ≡ bytes_cmp p.0 p.0) same refl ∙ tied_itself nat_list_cmp_total p.0 in
     ap (λ (o : Ordering). is_le (ordering_then o (bytes_cmp p.1 q.1))) tied ∙ le
-
--- a weight is read from its number
-pub record Weighs {Val Msg Weight : Type 0} (a : Algebra Val Msg Weight) (number : Weight → ℕ) (e : Entry Weight) : Type 0 where
-  pub small : number e.weight < 2 ^ 64
-  pub is : a.weight_of (decimal (number e.weight)) ≡ Some e.weight
 
 module _ {Val Msg Weight : Type 0} (a : Algebra Val Msg Weight) (laws : IsLawful a) (n : ℕ) (few : n ≤ 2 ^ 32) where
   pub small : n ≤ 2 ^ 64

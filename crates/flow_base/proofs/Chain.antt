@@ -20,21 +20,22 @@ use Rattle.partition.specs.Hash.{part_among}
 use Rattle.store.specs.Sealed.{nodes_text}
 use Rattle.flow_core.specs.Following.{Giving}
 use Rattle.flow_core.specs.Jobs.{Cut, job_by}
-use Rattle.flow.specs.Roles.{RoleWords, FollowsRoles}
+use Rattle.flow_base.specs.Roles.{RoleWords, FollowsRoles}
 use Rattle.flow_core.specs.Parts.{parts_with, part_lines}
 use Rattle.flow_core.specs.Holding.{Holds, record_of}
-use Rattle.flow.specs.Layouts.{Sequence, sequence, change_at, value_pair, number_pair, layout, result_parts}
-use Rattle.flow.proofs.Lines.{entry_pair, message_pair, node_pair, place_pair}
+use Rattle.flow_base.specs.Layouts.{Sequence, sequence, change_at, value_pair, number_pair, layout, result_parts}
+use Rattle.flow_base.proofs.Lines.{message_pair, node_pair, place_pair}
 use Rattle.std.proofs.lemmas.List.Concat.{flat_map_single}
 use Rattle.list_laws.proofs.Ranges.{all_below}
 use Rattle.flow_core.proofs.Nodes.{nodes_keyed, leb_order, part_nodes, nodes_in, sorted_nodes, sorted_at}
-use Rattle.flow.proofs.Stages.{small, Weighs, head_plain, head_reads, heads_good, joins1, passes1, joins2, messages_all}
+use Rattle.flow_base.proofs.Stages.{small, head_plain, head_reads, heads_good, joins1, passes1, joins2, messages_all}
 use Rattle.flow_core.proofs.Joins.{Joins, WritesWhole, sends_all, passes_each}
 use Rattle.flow_core.proofs.Steps.{step_is}
 use Rattle.flow_core.proofs.Jobs.{copied, gathered, reduces_by_record}
 use Rattle.flow_core.proofs.Folders.{holds_parts, holds_one}
 use Rattle.flow_core.proofs.MapPhase.{Gives}
-use Rattle.flow.proofs.RecordsBack.{numbered_plain, place_plain, place_back, nodes_are}
+use Rattle.flow_base.proofs.RecordsBack.{numbered_plain, place_plain, place_back, nodes_are}
+use Rattle.flow_base.specs.Matrices.{Weighs, entry_pair}
 
 at_most_one : (b : Bool) → cond b 0 1 ≤ 256
 at_most_one true = omega arith

@@ -8,7 +8,6 @@ use Rattle.std.proofs.lemmas.List.Sums.{length-filter}
 use Rattle.std.proofs.lemmas.List.Sorted.{IsPermutation-map, IsPermutation-sym, IsPermutation-trans, length_permutation}
 use Rattle.peg_text.specs.Pairs.{pair_line}
 use Rattle.graph.specs.declared.edges.Edge.{Edge}
-use Rattle.graph.specs.declared.edges.One.{One}
 use Rattle.graph.specs.Edges.{AreBelow}
 use Rattle.graph.specs.Entries.{Entry, plain_entry, out_degree, by_degree, hadi_entries}
 use Rattle.edge_text.specs.Edges.{text_of}
@@ -34,10 +33,10 @@ use Rattle.flow_core.proofs.Records.{pairs_text-map, pairs_text-flat}
 use Rattle.flow_core.proofs.Folders.{holds_one}
 use Rattle.flow_core.proofs.MapPhase.{Gives}
 use Rattle.flow_core.proofs.Jobs.{reduces_by_group, copied, gathered}
-use Rattle.flow.proofs.RecordsBack.{edge_pair, edge_back, numbered_plain}
+use Rattle.flow_base.proofs.RecordsBack.{edge_pair, edge_back, numbered_plain}
 use Rattle.flow_core.specs.Following.{Giving, Follows}
 use Rattle.flow_core.specs.Jobs.{Cut, job_by}
-use Rattle.flow.proofs.Lines.{entry_pair}
+use Rattle.flow_base.specs.Matrices.{entry_pair, one_number}
 
 -- both nodes of an edge are numbers of 32 bits
 abbrev pub IsShort : Edge → Type 0
@@ -52,9 +51,6 @@ edge_plain e short = numbered_plain e.source e.target (omega (arith, short.0)) (
 edges_hold : (edges : List Edge) → All IsShort edges → Holds (text_of edges ∷ []) (map edge_pair edges)
 edges_hold edges short =
     subst (λ (t : List ℕ). Holds (t ∷ []) (map edge_pair edges)) (sym (pairs_text-map edge_pair edges)) (holds_one (map edge_pair edges) (All-map IsPlain edge_pair edges (All-weaker IsShort (λ e. IsPlain (edge_pair e)) edge_plain edges short)))
-
-abbrev pub one_number : One → ℕ
-one_number one = 1
 
 module _ (gives : Giving) (copy : List (List ℕ)) (copies : Follows gives copy id_rule) (cut : Cut) (some_bytes : 1 ≤ cut.split) (some_reducers : 1 ≤ cut.reducers) (edges : List Edge) (short : All IsShort edges) where
   -- ---- entries of weight 1

@@ -1,0 +1,4 @@
+pub mod Layouts
+pub mod Roles
+pub mod Matrices
+pub mod Laws
