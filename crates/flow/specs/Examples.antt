@@ -39,7 +39,8 @@ LayoutByExample =
     × (layout labels 6 1 1 ≡ codes "0\tV 0 0\n1\tV 1 0\n2\tV 1 1\n3\tV 0 3\n4\tV 1 3\n5\tV 0 5\n" ∷ [])
     × (layout labels 6 1 2 ≡ codes "0\tV 0 0\n1\tV 0 0\n2\tV 1 0\n3\tV 0 3\n4\tV 0 3\n5\tV 0 5\n" ∷ [])
     × (layout labels 6 1 3 ≡ codes "0\tV 0 0\n1\tV 0 0\n2\tV 0 0\n3\tV 0 3\n4\tV 0 3\n5\tV 0 5\n" ∷ [])
-    × (layout labels 6 2 2 ≡ codes "1\tV 0 0\n3\tV 0 3\n5\tV 0 5\n" ∷ codes "0\tV 0 0\n2\tV 1 0\n4\tV 0 3\n" ∷ [])
+    × (layout labels 6 2 2
+    ≡ codes "1\tV 0 0\n3\tV 0 3\n5\tV 0 5\n" ∷ codes "0\tV 0 0\n2\tV 1 0\n4\tV 0 3\n" ∷ [])
     × (result_parts labels 6 1 3 ≡ codes "0\t0\n1\t0\n2\t0\n3\t3\n4\t3\n5\t5\n" ∷ [])
 
 -- how many nodes each iteration changed
@@ -53,11 +54,12 @@ ChangesByExample =
 abbrev pub small : Mining
 small = mining_of bundled small_conf three_edges
 
--- what the jobs leave where the children are those of the definition: an iteration and its count, the last iteration, the
--- result, and its three components
+-- what the jobs leave where the children are those of the definition: an iteration and its count, the last
+-- iteration, the result, and its three components
 abbrev pub FlowByExample : Type 0
 FlowByExample =
-    (flow small (Vector 2) ≡ codes "1\tV 0 0\n3\tV 0 3\n5\tV 0 5\n" ∷ codes "0\tV 0 0\n2\tV 1 0\n4\tV 0 3\n" ∷ [])
+    (flow small (Vector 2)
+    ≡ codes "1\tV 0 0\n3\tV 0 3\n5\tV 0 5\n" ∷ codes "0\tV 0 0\n2\tV 1 0\n4\tV 0 3\n" ∷ [])
     × (count_of small 2 ≡ Some 1)
     × (last_of small ≡ Some 3)
     × (flow small Results ≡ codes "1\t0\n3\t3\n5\t5\n" ∷ codes "0\t0\n2\t0\n4\t3\n" ∷ [])

@@ -26,9 +26,12 @@ pub record IsBaseRun (conf : Conf) : Type 0 where
 abbrev pub iterates_by : Command → Conf → List Edge → Sequence
 iterates_by Plain conf edges = record { text = λ k node. []; changes = λ k node. 0; number = λ k node. 0 }
 iterates_by Hcc conf edges = sequence hcc_algebra (iterate hcc_algebra.algorithm (hcc_entries edges))
-iterates_by Hadi conf edges = sequence (hadi_algebra conf.seed) (iterate (hadi_algebra conf.seed).algorithm (hadi_entries conf.sym edges))
+iterates_by Hadi conf edges =
+    sequence (hadi_algebra conf.seed)
+    (iterate (hadi_algebra conf.seed).algorithm (hadi_entries conf.sym edges))
 iterates_by PageRank conf edges =
-    sequence (page_rank_algebra conf.nodes) (iterate (page_rank_algebra conf.nodes).algorithm (page_rank_entries edges))
+    sequence (page_rank_algebra conf.nodes)
+    (iterate (page_rank_algebra conf.nodes).algorithm (page_rank_entries edges))
 
 -- the vectors of the command, from the first one on, each a step from the one before it
 abbrev pub iterates_of : Conf → List Edge → Sequence
@@ -57,8 +60,8 @@ total_after conf edges k = total_by conf.command (iterates_of conf edges) conf.n
 
 -- ---- the last iteration
 
--- a command ends at an iteration that changed so many nodes: components where none changed, ranks at their number of
--- iterations, radii at either
+-- a command ends at an iteration that changed so many nodes: components where none changed, ranks at their
+-- number of iterations, radii at either
 abbrev pub EndsAt : Command → Conf → ℕ → ℕ → Type 0
 EndsAt Plain conf changed k = ⊥
 EndsAt Hcc conf changed k = changed ≡ 0

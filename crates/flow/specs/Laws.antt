@@ -19,7 +19,8 @@ use Rattle.flow_base.specs.Layouts.{changed_in, sequence}
 use Rattle.flow.specs.Children.{FollowsChildren}
 use Rattle.flow.specs.Iterates.{IsBaseRun, IsLast, layout_of, result_of, changed_of, total_after}
 
--- edges that a matrix is made of: their nodes are below the number of nodes, and they are fewer than a weight can count
+-- edges that a matrix is made of: their nodes are below the number of nodes, and they are fewer than a
+-- weight can count
 pub record AreCountable (n : ℕ) (edges : List Edge) : Type 0 where
   pub below : AreBelow n edges
   pub few : length edges < 2 ^ 64
@@ -33,7 +34,8 @@ pub record HasIterate (gives : Giving) (conf : Conf) (edges : List Edge) (k : �
 
 abbrev pub BaseFlow : Type 0
 BaseFlow =
-    (gives : Giving) → FollowsChildren gives → (conf : Conf) → IsBaseRun conf → (edges : List Edge) → AreCountable conf.nodes edges
+    (gives : Giving) → FollowsChildren gives → (conf : Conf) → IsBaseRun conf → (edges : List Edge)
+    → AreCountable conf.nodes edges
     → (k : ℕ) → HasIterate gives conf edges k
 
 -- ---- the last iteration and the result
@@ -45,20 +47,25 @@ pub record HasResult (gives : Giving) (conf : Conf) (edges : List Edge) : Type 0
   pub first : IsLast conf (changed_of conf edges) last
   pub soon : last ≤ most_of conf conf.command
   pub result : flow (mining_of gives conf edges) Results ≡ result_of conf edges last
-  pub total : total_in conf.command (flow (mining_of gives conf edges) Results) ≡ Some (total_after conf edges last)
+  pub total : total_in conf.command (flow (mining_of gives conf edges) Results)
+      ≡ Some (total_after conf edges last)
 
 abbrev pub BaseResult : Type 0
 BaseResult =
-    (gives : Giving) → FollowsChildren gives → (conf : Conf) → IsBaseRun conf → (edges : List Edge) → AreCountable conf.nodes edges
+    (gives : Giving) → FollowsChildren gives → (conf : Conf) → IsBaseRun conf → (edges : List Edge)
+    → AreCountable conf.nodes edges
     → HasResult gives conf edges
 
 -- ---- each command
 
 -- the result has this number for each node
 abbrev pub parts_of_numbers : Conf → (ℕ → ℕ) → List (List ℕ)
-parts_of_numbers conf number = parts_with conf.reducers (map (λ node. (decimal node, decimal (number node))) (range_with_len 0 conf.nodes))
+parts_of_numbers conf number =
+    parts_with conf.reducers
+    (map (λ node. (decimal node, decimal (number node))) (range_with_len 0 conf.nodes))
 
--- components end within as many iterations as there are nodes, and the result has the least label of each node
+-- components end within as many iterations as there are nodes, and the result has the least label of each
+-- node
 pub record EndsAtLeastLabels (gives : Giving) (conf : Conf) (edges : List Edge) : Type 0 where
   pub last : ℕ
   pub is_last : last_of (mining_of gives conf edges) ≡ Some last
@@ -68,13 +75,15 @@ pub record EndsAtLeastLabels (gives : Giving) (conf : Conf) (edges : List Edge) 
 
 abbrev pub ComponentsEnd : Type 0
 ComponentsEnd =
-    (gives : Giving) → FollowsChildren gives → (conf : Conf) → IsBaseRun conf → conf.command ≡ Hcc → (edges : List Edge) → AreCountable conf.nodes edges
+    (gives : Giving) → FollowsChildren gives → (conf : Conf) → IsBaseRun conf → conf.command ≡ Hcc
+    → (edges : List Edge) → AreCountable conf.nodes edges
     → EndsAtLeastLabels gives conf edges
 
 -- ranks end after as many iterations as were asked for
 abbrev pub RanksEnd : Type 0
 RanksEnd =
-    (gives : Giving) → FollowsChildren gives → (conf : Conf) → IsBaseRun conf → conf.command ≡ PageRank → (edges : List Edge) → AreCountable conf.nodes edges
+    (gives : Giving) → FollowsChildren gives → (conf : Conf) → IsBaseRun conf → conf.command ≡ PageRank
+    → (edges : List Edge) → AreCountable conf.nodes edges
     → last_of (mining_of gives conf edges) ≡ Some conf.iters
 
 -- radii end by the most hops, and the result has the radius of each node
@@ -82,12 +91,15 @@ pub record EndsAtRadii (gives : Giving) (conf : Conf) (edges : List Edge) : Type
   pub last : ℕ
   pub is_last : last_of (mining_of gives conf edges) ≡ Some last
   pub soon : last ≤ conf.hops
-  pub radii : (radius : ℕ → ℕ) → ((node : ℕ) → node < conf.nodes → IsRadius conf.seed (hadi_entries conf.sym edges) last node (radius node))
+  pub radii : (radius : ℕ → ℕ)
+      → ((node : ℕ) → node < conf.nodes → IsRadius conf.seed (hadi_entries conf.sym edges) last node
+      (radius node))
       → flow (mining_of gives conf edges) Results ≡ parts_of_numbers conf radius
 
 abbrev pub RadiiEnd : Type 0
 RadiiEnd =
-    (gives : Giving) → FollowsChildren gives → (conf : Conf) → IsBaseRun conf → conf.command ≡ Hadi → (edges : List Edge) → AreCountable conf.nodes edges
+    (gives : Giving) → FollowsChildren gives → (conf : Conf) → IsBaseRun conf → conf.command ≡ Hadi
+    → (edges : List Edge) → AreCountable conf.nodes edges
     → EndsAtRadii gives conf edges
 
 -- ---- edges of a file

@@ -9,8 +9,8 @@ pub fn bundled_follow()
     ensures { BundledFollow }
 {}
 
-/// Where the children are the bundled ones, each vector of the base form is so many steps, and its lines count what the
-/// last of them changed.
+/// Where the children are the bundled ones, each vector of the base form is so many steps, and its lines
+/// count what the last of them changed.
 pub fn base_flow()
     ensures edges { BaseFlow }
     ensures files { FileFlow }
@@ -22,8 +22,8 @@ pub fn base_result()
     ensures files { FileResult }
 {}
 
-/// Components end at the least labels, ranks after as many iterations as were asked for, and radii with the radius of each
-/// node.
+/// Components end at the least labels, ranks after as many iterations as were asked for, and radii with the
+/// radius of each node.
 pub fn commands_end()
     ensures components { ComponentsEnd }
     ensures ranks { RanksEnd }

@@ -25,24 +25,34 @@ pub record IsCut (cut : Cut) : Type 0 where
 -- ---- vectors and results
 
 -- folders of which the first is made of the nodes, and each later one of the matrix and the one before it
-pub record AreMade (gives : Giving) (words : RoleWords) (cut : Cut) (n : ℕ) (matrix : List (List ℕ)) (folder : ℕ → List (List ℕ)) : Type 0 where
+pub record AreMade (gives : Giving) (words : RoleWords) (cut : Cut) (n : ℕ) (matrix : List (List ℕ))
+    (folder : ℕ → List (List ℕ)) : Type 0 where
   pub begins : folder 0 ≡ job_by gives cut words.copy words.first (nodes_text n ∷ [])
-  pub goes_on : (k : ℕ) → folder (suc k) ≡ job_by gives cut words.copy words.stage2 (job_by gives cut words.copy words.stage1 (matrix ++ folder k))
+  pub goes_on : (k : ℕ)
+      → folder (suc k)
+      ≡ job_by gives cut words.copy words.stage2
+      (job_by gives cut words.copy words.stage1 (matrix ++ folder k))
 
 -- they hold the iterates
 abbrev pub VectorsAreIterates : Type 0 → Type 0 → Type 0 → Type 0
 VectorsAreIterates Val Msg Weight =
-    (gives : Giving) (a : Algebra Val Msg Weight) → IsLawful a → (n : ℕ) → n ≤ 2 ^ 32 → (words : RoleWords) → FollowsRoles gives a n words → (cut : Cut) → IsCut cut
-    → (number : Weight → ℕ) (entries : List (Entry Weight)) (matrix : List (List ℕ)) → HasMatrix a number n entries matrix
+    (gives : Giving) (a : Algebra Val Msg Weight) → IsLawful a → (n : ℕ) → n ≤ 2 ^ 32 → (words : RoleWords)
+    → FollowsRoles gives a n words → (cut : Cut) → IsCut cut
+    → (number : Weight → ℕ) (entries : List (Entry Weight)) (matrix : List (List ℕ))
+    → HasMatrix a number n entries matrix
     → (folder : ℕ → List (List ℕ)) → AreMade gives words cut n matrix folder
     → (k : ℕ) → folder k ≡ layout (sequence a (iterate a.algorithm entries)) n cut.reducers k
 
 -- what is made of one of them has the numbers of its values
 abbrev pub ResultsAreNumbers : Type 0 → Type 0 → Type 0 → Type 0
 ResultsAreNumbers Val Msg Weight =
-    (gives : Giving) (a : Algebra Val Msg Weight) → IsLawful a → (n : ℕ) → n ≤ 2 ^ 32 → (words : RoleWords) → FollowsRoles gives a n words → (cut : Cut) → IsCut cut
-    → (number : Weight → ℕ) (entries : List (Entry Weight)) (matrix : List (List ℕ)) → HasMatrix a number n entries matrix
-    → (k : ℕ) → job_by gives cut words.number words.copy (layout (sequence a (iterate a.algorithm entries)) n cut.reducers k)
+    (gives : Giving) (a : Algebra Val Msg Weight) → IsLawful a → (n : ℕ) → n ≤ 2 ^ 32 → (words : RoleWords)
+    → FollowsRoles gives a n words → (cut : Cut) → IsCut cut
+    → (number : Weight → ℕ) (entries : List (Entry Weight)) (matrix : List (List ℕ))
+    → HasMatrix a number n entries matrix
+    → (k : ℕ)
+    → job_by gives cut words.number words.copy
+    (layout (sequence a (iterate a.algorithm entries)) n cut.reducers k)
     ≡ result_parts (sequence a (iterate a.algorithm entries)) n cut.reducers k
 
 -- ---- matrices
@@ -50,14 +60,18 @@ ResultsAreNumbers Val Msg Weight =
 -- entries of weight 1
 abbrev pub MatrixOfOnes : Type 0 → Type 0 → Type 0
 MatrixOfOnes Val Msg =
-    (gives : Giving) (copy words : List (List ℕ)) (both : Bool) → Follows gives copy id_rule → Follows gives words (entries_rule both) → (cut : Cut) → IsCut cut
-    → (a : Algebra Val Msg One) → IsLawful a → ((w : One) → FitsWeight a w) → ((w : One) → a.weight_of (decimal 1) ≡ Some w)
+    (gives : Giving) (copy words : List (List ℕ)) (both : Bool) → Follows gives copy id_rule
+    → Follows gives words (entries_rule both) → (cut : Cut) → IsCut cut
+    → (a : Algebra Val Msg One) → IsLawful a → ((w : One) → FitsWeight a w)
+    → ((w : One) → a.weight_of (decimal 1) ≡ Some w)
     → (n : ℕ) → n ≤ 2 ^ 32 → (edges : List Edge) → AreBelow n edges
     → HasMatrix a one_number n (hadi_entries both edges) (job_by gives cut words copy (text_of edges ∷ []))
 
 -- entries weighed by how many edges leave the source
 abbrev pub MatrixOfRanks : Type 0
 MatrixOfRanks =
-    (gives : Giving) (copy words : List (List ℕ)) → Follows gives copy id_rule → Follows gives words degrees_rule → (cut : Cut) → IsCut cut
+    (gives : Giving) (copy words : List (List ℕ)) → Follows gives copy id_rule
+    → Follows gives words degrees_rule → (cut : Cut) → IsCut cut
     → (n : ℕ) → n ≤ 2 ^ 32 → (edges : List Edge) → AreBelow n edges → length edges < 2 ^ 64
-    → HasMatrix (page_rank_algebra n) (λ m. m) n (by_degree edges) (job_by gives cut copy words (text_of edges ∷ []))
+    → HasMatrix (page_rank_algebra n) (λ m. m) n (by_degree edges)
+    (job_by gives cut copy words (text_of edges ∷ []))

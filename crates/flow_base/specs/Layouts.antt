@@ -6,14 +6,15 @@ use Rattle.gimv_core.specs.Algebras.{Algebra}
 use Rattle.pairs.specs.Pairs.{Pair}
 use Rattle.flow_core.specs.Parts.{parts_with}
 
--- a sequence of vectors as its folders tell it: the text of each node's value, 1 where the value changed and else 0, and
--- the value as a number of the result
+-- a sequence of vectors as its folders tell it: the text of each node's value, 1 where the value changed
+-- and else 0, and the value as a number of the result
 pub record Sequence : Type 0 where
   pub text : ℕ → ℕ → List ℕ
   pub changes : ℕ → ℕ → ℕ
   pub number : ℕ → ℕ → ℕ
 
--- whether vector k isn't the same at a node as the one before it; in the first vector each node counts as changed
+-- whether vector k isn't the same at a node as the one before it; in the first vector each node counts as
+-- changed
 abbrev pub change_at : {Val Msg Weight : Type 0} → Algorithm Val Msg Weight → (ℕ → Vector Val) → ℕ → ℕ → ℕ
 change_at a vectors zero node = 1
 change_at a vectors (suc k) node = if a.same (vectors (suc k) node) (vectors k node) then 0 else 1

@@ -13,7 +13,8 @@ pub record RoleWords : Type 0 where
   pub number : List (List ℕ)
 
 -- children of these words write what the roles of the algorithm over n nodes give
-pub record FollowsRoles {Val Msg Weight : Type 0} (gives : Giving) (a : Algebra Val Msg Weight) (n : ℕ) (words : RoleWords) : Type 0 where
+pub record FollowsRoles {Val Msg Weight : Type 0} (gives : Giving) (a : Algebra Val Msg Weight) (n : ℕ)
+    (words : RoleWords) : Type 0 where
   pub copy : Follows gives words.copy id_rule
   pub first : Follows gives words.first (first_rule a n)
   pub stage1 : Follows gives words.stage1 (stage1_rule a n)

@@ -10,4 +10,5 @@ Giving = List (List ℕ) → List ℕ → List ℕ
 
 -- a child of these words writes what the rule gives, wherever no record is bad
 abbrev pub Follows : Giving → List (List ℕ) → Rule → Type 0
-Follows gives words rule = (bytes out : List ℕ) → role_out rule (records_of bytes) ≡ written out → gives words bytes ≡ out
+Follows gives words rule =
+    (bytes out : List ℕ) → role_out rule (records_of bytes) ≡ written out → gives words bytes ≡ out

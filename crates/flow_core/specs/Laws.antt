@@ -18,19 +18,27 @@ use Rattle.flow_core.specs.Places.{AreAtPlaces, placed_edge, placed_entry, IsIns
 
 -- a folder that has pairs in the parts of their keys holds them
 abbrev pub PartsHold : Type 0
-PartsHold = (reducers : ℕ) (pairs : List Pair) → 1 ≤ reducers → All IsPlain pairs → Holds (parts_with reducers pairs) pairs
+PartsHold =
+    (reducers : ℕ) (pairs : List Pair) → 1 ≤ reducers → All IsPlain pairs
+    → Holds (parts_with reducers pairs) pairs
 
 -- the order of pairs makes no difference to a folder
 abbrev pub PartsInAnyOrder : Type 0
-PartsInAnyOrder = (reducers : ℕ) (one other : List Pair) → IsPermutation one other → parts_with reducers one ≡ parts_with reducers other
+PartsInAnyOrder =
+    (reducers : ℕ) (one other : List Pair) → IsPermutation one other
+    → parts_with reducers one ≡ parts_with reducers other
 
--- reducers read the sorted parts of all that mappers write: neither splits nor the parts of the inputs make a difference
+-- reducers read the sorted parts of all that mappers write: neither splits nor the parts of the inputs make
+-- a difference
 abbrev pub ReducersReadParts : Type 0
 ReducersReadParts =
-    (gives : Giving) (text : List ℕ → Option (List ℕ)) (cut : Cut) (mapper reducer : List (List ℕ)) → Follows gives mapper (ByRecord text) → 1 ≤ cut.split
+    (gives : Giving) (text : List ℕ → Option (List ℕ)) (cut : Cut) (mapper reducer : List (List ℕ))
+    → Follows gives mapper (ByRecord text) → 1 ≤ cut.split
     → (inputs : List (List ℕ)) (read : List Pair) (out : Pair → List Pair) → Holds inputs read
     → All (λ p. (text (record_of p) ≡ Some (pairs_text (out p))) × All IsPlain (out p)) read
-    → job_by gives cut mapper reducer inputs ≡ map (λ part. gives reducer (part_lines cut.reducers (flat_map out read) part)) (range_with_len 0 cut.reducers)
+    → job_by gives cut mapper reducer inputs
+    ≡ map (λ part. gives reducer (part_lines cut.reducers (flat_map out read) part))
+    (range_with_len 0 cut.reducers)
 
 -- ---- nodes at places
 
@@ -48,5 +56,7 @@ DegreesGoAlong =
 -- the iterates over places are those of the nodes there
 abbrev pub IteratesGoAlong : Type 0 → Type 0 → Type 0 → Type 0
 IteratesGoAlong Val Msg Weight =
-    (n : ℕ) (place id : ℕ → ℕ) → AreAtPlaces n place id → (a : Algorithm Val Msg Weight) (entries : List (Entry Weight)) → All (IsInside n) entries
-    → (k p : ℕ) → p < n → iterate (over_places id a) (map (placed_entry place) entries) k p ≡ iterate a entries k (id p)
+    (n : ℕ) (place id : ℕ → ℕ) → AreAtPlaces n place id
+    → (a : Algorithm Val Msg Weight) (entries : List (Entry Weight)) → All (IsInside n) entries
+    → (k p : ℕ) → p < n
+    → iterate (over_places id a) (map (placed_entry place) entries) k p ≡ iterate a entries k (id p)

@@ -22,5 +22,6 @@ abbrev pub IsInside : {Weight : Type 0} → ℕ → Entry Weight → Type 0
 IsInside n e = (e.row < n) × (e.column < n)
 
 -- the same algorithm over places: a place begins with the value of the node there
-abbrev pub over_places : {Val Msg Weight : Type 0} → (ℕ → ℕ) → Algorithm Val Msg Weight → Algorithm Val Msg Weight
+abbrev pub over_places : {Val Msg Weight : Type 0} → (ℕ → ℕ) → Algorithm Val Msg Weight
+    → Algorithm Val Msg Weight
 over_places id a = record a { first = λ p. a.first (id p) }

@@ -9,23 +9,29 @@ use Rattle.list_laws.specs.Classes.{IsOnce, class}
 
 -- lists made of each item
 abbrev pub MadeInOrder : Type 0 → Type 0 → Type 0
-MadeInOrder A B = (before : A → A → Bool) (f : A → List B) (xs : List A) → IsPermutation (flat_map f xs) (flat_map f (in_order before xs))
+MadeInOrder A B =
+    (before : A → A → Bool) (f : A → List B) (xs : List A)
+    → IsPermutation (flat_map f xs) (flat_map f (in_order before xs))
 
 -- the items that pass a test
 abbrev pub KeptInOrder : Type 0 → Type 0
-KeptInOrder A = (before : A → A → Bool) (test : A → Bool) (xs : List A) → IsPermutation (filter test xs) (filter test (in_order before xs))
+KeptInOrder A =
+    (before : A → A → Bool) (test : A → Bool) (xs : List A)
+    → IsPermutation (filter test xs) (filter test (in_order before xs))
 
 -- images stand in the order of their items by them
 abbrev pub ImagesInOrder : Type 0 → Type 0 → Type 0
 ImagesInOrder A B =
-    (before : B → B → Bool) (f : A → B) (xs : List A) → in_order before (map f xs) ≡ map f (in_order (λ x y. before (f x) (f y)) xs)
+    (before : B → B → Bool) (f : A → B) (xs : List A)
+    → in_order before (map f xs) ≡ map f (in_order (λ x y. before (f x) (f y)) xs)
 
 -- ---- classes
 
 -- items of which each is in just one class, class by class
 abbrev pub ClassByClass : Type 0 → Type 0 → Type 0
 ClassByClass A K =
-    (same : A → K → Bool) (ks : List K) (xs : List A) → All (λ x. IsOnce (same x) ks) xs → IsPermutation xs (flat_map (class same xs) ks)
+    (same : A → K → Bool) (ks : List K) (xs : List A) → All (λ x. IsOnce (same x) ks) xs
+    → IsPermutation xs (flat_map (class same xs) ks)
 
 -- what is made of such items, class by class
 abbrev pub MadeClassByClass : Type 0 → Type 0 → Type 0 → Type 0
