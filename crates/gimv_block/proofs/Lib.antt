@@ -1,0 +1,17 @@
+pub mod BlockNodes
+pub mod BlockLemmas
+pub mod ItemLemmas
+pub mod RowLemmas
+pub mod SendLemmas
+pub mod ValueLemmas
+pub mod SettleLemmas
+pub mod BackLemmas
+pub mod SeatLemmas
+pub mod ListingLemmas
+pub mod FlowLemmas
+pub mod ListedLemmas
+pub mod SeatBackLemmas
+pub mod UnplaceLemmas
+pub mod UnplaceBack
+pub mod NewValueLemmas
+pub mod FirstLemmas

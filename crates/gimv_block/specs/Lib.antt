@@ -1,0 +1,15 @@
+pub mod Cutting
+pub mod Blocks
+pub mod BlockSteps
+pub mod Items
+pub mod BlockRecords
+pub mod BlockLines
+pub mod BlockRules
+pub mod Rows
+pub mod BlockBlame
+pub mod MatrixEntries
+pub mod BlockReadBack
+pub mod BlockFlow
+pub mod BlockListing
+pub mod Unplacing
+pub mod BlockValues
