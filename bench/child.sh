@@ -1,15 +1,17 @@
 #!/usr/bin/env bash
 # bench/child.sh FOLDER [LINES]: CPU seconds and memory of pegchild's roles over files of so many lines (2,000,000), beside
-# the same roles of a C program, whose source FOLDER/peer.c is. Both must write the same bytes. The least of five runs counts.
+# the same roles of C programs: those over nodes of FOLDER/peer.c, those over blocks of bench/blocks.c. Without a FOLDER, or
+# with `-`, the roles over nodes are left out. Both must write the same bytes. The least of five runs counts.
 set -eu
 top=$(cd "$(dirname "$0")/.." && pwd)
 . "$top/bench/common.sh"
-peer_folder=${1:?the folder of peer.c}
+peer_folder=${1:--}
 lines=${2:-2000000}
 child=$top/crates/pegchild/out/pegchild
 data=$(mktemp -d)
 trap 'rm -rf "$data"' EXIT
-gcc -O2 -w -o "$data/peer" "$peer_folder/peer.c"
+[ "$peer_folder" = - ] || gcc -O2 -w -o "$data/peer" "$peer_folder/peer.c"
+gcc -O2 -o "$data/blocks" "$top/bench/blocks.c"
 nodes=$((lines / 10))
 
 # Groups of ten lines, one for each node: its value, and nine entries of its column or messages to it.
@@ -35,19 +37,43 @@ awk -v lines="$lines" -v nodes="$nodes" 'BEGIN {
         print source "\t" seed % nodes
     }
 }' >"$data/edges"
-groups columns >"$data/columns"
-groups messages >"$data/messages"
-groups ranks >"$data/ranks"
 
-# compare FILE ROLE ..: the role of both programs over this file.
+# compare PEER FILE ROLE ..: the role of both programs over this file.
 compare() {
-    local input=$data/$1 ours theirs
-    shift
+    local peer=$data/$1 input=$data/$2 ours theirs
+    shift 2
     ours=$(output=$data/ours measured 5 "$child" "$@")
-    theirs=$(output=$data/wanted measured 5 "$data/peer" "$@")
+    theirs=$(output=$data/wanted measured 5 "$peer" "$@")
     shown "$*" "$ours" "$theirs" C "$data/ours" "$data/wanted"
 }
-compare edges entries both
-compare columns stage1 hcc "$nodes"
-compare messages stage2 hcc "$nodes"
-compare ranks stage1 pagerank "$nodes"
+
+if [ "$peer_folder" != - ]; then
+    groups columns >"$data/columns"
+    groups messages >"$data/messages"
+    groups ranks >"$data/ranks"
+    compare peer edges entries both
+    compare peer columns stage1 hcc "$nodes"
+    compare peer messages stage2 hcc "$nodes"
+    compare peer ranks stage1 pagerank "$nodes"
+fi
+
+# The steps of the block form over these edges, by the C program, give the roles over blocks their files.
+awk '{ print $2 "\tW " $1 " 1"; print $1 "\tW " $2 " 1" }' "$data/edges" >"$data/matrix"
+compare blocks matrix cut 16
+for length in 16 256; do
+    "$data/blocks" cut "$length" <"$data/matrix" | sort -t "$(printf '\t')" -k1,1 -k2 >"$data/cut"
+    compare blocks cut blocks
+    "$data/blocks" blocks <"$data/cut" >"$data/lines"
+    awk -v nodes="$nodes" -v size="$length" 'BEGIN {
+        for (block = 0; block * size < nodes; block++) {
+            end = (block + 1) * size; if (end > nodes) end = nodes
+            printf "%d\tV %d ", block, end - block * size
+            for (node = block * size; node < end; node++) printf "%s%d", node > block * size ? "," : "", node
+            print ""
+        }
+    }' >"$data/values"
+    sort -t "$(printf '\t')" -k1,1 -k2 "$data/lines" "$data/values" >"$data/columns"
+    compare blocks columns block1 hcc "$nodes" "$length"
+    "$data/blocks" block1 hcc "$nodes" "$length" <"$data/columns" | sort -t "$(printf '\t')" -k1,1 -k2 >"$data/messages"
+    compare blocks messages block2 hcc "$nodes" "$length"
+done

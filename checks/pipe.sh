@@ -1,7 +1,8 @@
 #!/usr/bin/env bash
 # checks/pipe.sh: components and ranks by hand, with pegchild as mapper and reducer and `sort` between them, as any streaming
-# runner would have it. The labels must be those of `pegmine plain`, and the ranks those of a plain computation in awk, whose
-# integers stay below 2^53. It is silent where all is well.
+# runner would have it. The labels must be those of `pegmine plain`, in the base, the block and the diagonal form, and the
+# ranks those of a plain computation in awk, whose integers stay below 2^53; in blocks they must be the same bytes. It is
+# silent where all is well.
 set -u
 top=$(cd "$(dirname "$0")/.." && pwd)
 child=$top/crates/pegchild/out/pegchild
@@ -47,8 +48,8 @@ while [ "$changed" -gt 0 ]; do
     changed=$(grep -c "$(printf '\tV 1 ')" values)
 done
 job id "number hcc $nodes" labels values
-"$pegmine" work edges plain nodes="$nodes" >wanted || fail "pegmine plain: status $?"
-sort -n labels | cmp -s - wanted || fail 'the labels are others than those of pegmine plain'
+"$pegmine" work edges plain nodes="$nodes" >wanted_labels || fail "pegmine plain: status $?"
+sort -n labels | cmp -s - wanted_labels || fail 'the labels are others than those of pegmine plain'
 
 # The ranks after ten steps, in units of 2^-32.
 job id degrees matrix edges
@@ -72,3 +73,60 @@ awk -v nodes="$nodes" '
         for (node = 0; node < nodes; node++) printf "%d\t%.0f\n", node, rank[node]
     }' edges >wanted
 sort -n ranks | cmp -s - wanted || fail 'the ranks are others than those of a plain computation'
+cp ranks base_ranks
+
+# form_blocks LENGTH ALGORITHM: the folder `blocks` and the first values, from the folder `matrix` and the places.
+form_blocks() {
+    job "cut $1" blocks blocks matrix
+    job "group $1" "firstb $2 $nodes $1" values places
+}
+
+# The radii after three steps, in blocks and in the base form.
+job 'entries one' id matrix edges
+form_blocks 16 hadi=7
+job id "first hadi=7 $nodes" base_values places
+for _ in 1 2 3; do
+    job id "stage1 hadi=7 $nodes" base_sent matrix base_values
+    job id "stage2 hadi=7 $nodes" base_values base_sent
+    job id "block1 hadi=7 $nodes 16" sent blocks values
+    job id "block2 hadi=7 $nodes 16" values sent
+done
+job "number hadi=7 $nodes" id base_radii base_values
+job "unblock hadi=7 $nodes 16" id radii values
+cmp -s radii base_radii || fail 'the radii in blocks are others than those of the base form'
+
+# The components again, in blocks whose last one is shorter, by plain steps and by steps of closed blocks.
+job 'entries both' id matrix edges
+for form in 'block1 hcc' diag1; do
+    form_blocks 16 hcc
+    changed=$nodes
+    while [ "$changed" -gt 0 ]; do
+        job id "$form $nodes 16" sent blocks values
+        job id "block2 hcc $nodes 16" values sent
+        changed=$(awk '{ sum += $3 } END { print sum }' values)
+    done
+    job "unblock hcc $nodes 16" id labels values
+    sort -n labels | cmp -s - wanted_labels || fail "the labels by $form are others than those of pegmine plain"
+done
+
+# The ranks again: in blocks, and in blocks of nodes in another order, whose numbers are joined with the nodes.
+job id degrees matrix edges
+form_blocks 16 pagerank
+for _ in 1 2 3 4 5 6 7 8 9 10; do
+    job id "block1 pagerank $nodes 16" sent blocks values
+    job id "block2 pagerank $nodes 16" values sent
+done
+job "unblock pagerank $nodes 16" id ranks values
+cmp -s ranks base_ranks || fail 'the ranks in blocks are others than those of the base form'
+
+awk -v nodes="$nodes" 'BEGIN { for (place = 0; place < nodes; place++) print place "\tP " (place * 7 + 3) % nodes }' >places
+awk -v nodes="$nodes" 'NR == FNR { place[$3] = $1; next } { print place[$1] "\t" place[$2] }' places edges >placed
+job id degrees matrix placed
+form_blocks 16 pagerank
+for _ in 1 2 3 4 5 6 7 8 9 10; do
+    job id "block1 pagerank $nodes 16" sent blocks values
+    job id "block2 pagerank $nodes 16" values sent
+done
+job "unplace pagerank $nodes 16" place joined places values
+job id id ranks joined
+cmp -s ranks base_ranks || fail 'the ranks of nodes in another order are others than those of the base form'

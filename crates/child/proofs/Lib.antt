@@ -2,3 +2,4 @@ pub mod GroupLemmas
 pub mod HandingLemmas
 pub mod FeedingLemmas
 pub mod RunLemmas
+pub mod EdgesLemmas

@@ -1,4 +1,6 @@
 pub mod Statuses
+pub mod Roles
+pub mod Edges
 pub mod Words
 pub mod Judging
 pub mod Handing

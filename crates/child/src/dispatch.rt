@@ -3,16 +3,19 @@ ghost use Rattle.std.specs.String.{string_bytes};
 ghost use Rattle.dir_disk.specs.Causes.{Rose};
 ghost use Rattle.child.specs.Child.{IsDone, IsFirstBad, IsStreamed, Runs, WritesPart, streams};
 ghost use Rattle.child.specs.Judging.{AreTooMany};
-ghost use Rattle.child.specs.Words.{HasNodes, rule_of, rule_of_kind, rule_of_node_role, rule_over_nodes};
+ghost use Rattle.child.specs.Words.{HasNodes, rule_of, rule_of_kind, rule_of_block_role, rule_of_node_role, rule_over_blocks, rule_over_nodes};
 
-use crate::kinds::{Algorithm, Kind, NodeRole, read_kind};
+use crate::edges::EdgesRole;
+use crate::kinds::{Algorithm, BlockRole, Kind, NodeRole, read_kind};
 use crate::run::run_role;
 use crate::status::ChildStatus;
 use dir_disk::{Sink, Source};
 use gimv_base::{
     DegreesRole, EntriesRole, FirstRole, IdRole, NumberRole, PlaceRole, Stage1, Stage2,
 };
+use gimv_block::{Block1, Block2, BlocksRole, CutRole, FirstBlock, GroupRole, Unblock, Unplace};
 use gimv_core::Gimv;
+use gimv_diag::Diag1;
 use hadi::Hadi;
 use hcc::Hcc;
 use pagerank::PageRank;
@@ -71,6 +74,7 @@ fn run_kind<I: Source, O: Sink>(
     match kind {
         Kind::Id => run_role(alloc, IdRole::new(), source, sink),
         Kind::Entries { both } => run_role(alloc, EntriesRole::new(both), source, sink),
+        Kind::Edges { nodes } => run_role(alloc, EdgesRole::new(alloc, nodes), source, sink),
         Kind::Degrees => run_role(alloc, DegreesRole::new(alloc), source, sink),
         Kind::Place => run_role(alloc, PlaceRole::new(alloc), source, sink),
         Kind::Nodes {
@@ -78,6 +82,23 @@ fn run_kind<I: Source, O: Sink>(
             algorithm,
             nodes,
         } => run_over_nodes(alloc, role, algorithm, nodes, source, sink),
+        Kind::Group { block } => run_role(alloc, GroupRole::new(block), source, sink),
+        Kind::Cut { block } => run_role(alloc, CutRole::new(block), source, sink),
+        Kind::Blocks => run_role(alloc, BlocksRole::new(alloc), source, sink),
+        Kind::InBlocks {
+            role,
+            algorithm,
+            nodes,
+            block,
+        } => run_over_blocks(alloc, role, algorithm, nodes, block, source, sink),
+        Kind::Diagonal { nodes, block } => {
+            run_role(
+                alloc,
+                Diag1::new(alloc, Hcc::new(), nodes, block),
+                source,
+                sink,
+            )
+        }
     }
 }
 
@@ -120,5 +141,85 @@ fn run_node_role<G: Gimv + Drop, I: Source, O: Sink>(
         NodeRole::Stage1 => run_role(alloc, Stage1::new(alloc, algorithm, nodes), source, sink),
         NodeRole::Stage2 => run_role(alloc, Stage2::new(alloc, algorithm, nodes), source, sink),
         NodeRole::Number => run_role(alloc, NumberRole::new(algorithm, nodes), source, sink),
+    }
+}
+
+/// Runs a role over the blocks of an algorithm's nodes.
+fn run_over_blocks<I: Source, O: Sink>(
+    alloc: Global,
+    role: BlockRole,
+    algorithm: Algorithm,
+    nodes: u32,
+    block: u32,
+    source: &mut I,
+    sink: &mut O,
+) -> ChildStatus
+    requires nodes { 1 ≤ nodes }
+    requires block { 1 ≤ block }
+    ensures { Runs (rule_over_blocks role algorithm nodes block) result (streams (I.left source.old) (O.written sink.old) (I.faults source.old) (O.faults sink.old)) (streams (I.left source.new) (O.written sink.new) (I.faults source.new) (O.faults sink.new)) }
+{
+    match algorithm {
+        Algorithm::Hcc => run_block_role(alloc, role, Hcc::new(), nodes, block, source, sink),
+        Algorithm::PageRank => {
+            run_block_role(
+                alloc,
+                role,
+                PageRank::new(nodes),
+                nodes,
+                block,
+                source,
+                sink,
+            )
+        }
+        Algorithm::Hadi { seed } => {
+            run_block_role(alloc, role, Hadi::new(seed), nodes, block, source, sink)
+        }
+    }
+}
+
+/// Runs a role over the blocks of this algorithm's nodes.
+fn run_block_role<G: Gimv + Drop, I: Source, O: Sink>(
+    alloc: Global,
+    role: BlockRole,
+    algorithm: G,
+    nodes: u32,
+    block: u32,
+    source: &mut I,
+    sink: &mut O,
+) -> ChildStatus
+    requires { 1 ≤ block }
+    ensures { Runs (rule_of_block_role role (G.algebra algorithm) nodes block) result (streams (I.left source.old) (O.written sink.old) (I.faults source.old) (O.faults sink.old)) (streams (I.left source.new) (O.written sink.new) (I.faults source.new) (O.faults sink.new)) }
+{
+    match role {
+        BlockRole::FirstB => {
+            run_role(
+                alloc,
+                FirstBlock::new(alloc, algorithm, nodes, block),
+                source,
+                sink,
+            )
+        }
+        BlockRole::Block1 => {
+            run_role(
+                alloc,
+                Block1::new(alloc, algorithm, nodes, block),
+                source,
+                sink,
+            )
+        }
+        BlockRole::Block2 => {
+            run_role(
+                alloc,
+                Block2::new(alloc, algorithm, nodes, block),
+                source,
+                sink,
+            )
+        }
+        BlockRole::Unblock => {
+            run_role(alloc, Unblock::new(algorithm, nodes, block), source, sink)
+        }
+        BlockRole::Unplace => {
+            run_role(alloc, Unplace::new(algorithm, nodes, block), source, sink)
+        }
     }
 }

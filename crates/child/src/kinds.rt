@@ -1,12 +1,16 @@
-ghost use Rattle.std.specs.Prelude.{◌≡◌, ◌≤◌, map, codes, IfSome};
+ghost use Rattle.std.specs.Prelude.{◌≡◌, ◌≤◌, map, codes, option_map, IfSome};
 ghost use Rattle.std.specs.String.{string_bytes};
-ghost use Rattle.child.specs.Words.{HasNodes, algorithm_of, alone, kind_of, node_count_of, node_role_of, over_nodes, sides_of, with_sides};
+ghost use Rattle.child.specs.Words.{HasNodes, algorithm_of, alone, asked_of, block_length_of, closed_in_blocks, kind_of, node_count_of, only_length, only_nodes, over_blocks, over_nodes, sides_of, with_sides};
 
+use crate::roles::RoleName;
 use peg_text::read_decimal;
 use words::{bytes_at, number_between};
 
 /// The most nodes that a role is told of: 2^30.
 const MOST_NODES: u64 = 1_073_741_824;
+
+/// The most nodes that a block has.
+const LONGEST_BLOCK: u64 = 256;
 
 /// An algorithm that a word names.
 #[derive(Clone, Copy, Debug, PartialEq, Eq)]
@@ -25,10 +29,23 @@ pub enum NodeRole {
     Number,
 }
 
+/// A role over the blocks of an algorithm's nodes.
+#[derive(Clone, Copy, Debug, PartialEq, Eq)]
+pub enum BlockRole {
+    FirstB,
+    Block1,
+    Block2,
+    Unblock,
+    Unplace,
+}
+
 /// What words ask for.
 #[derive(Clone, Copy, Debug, PartialEq, Eq)]
 pub enum Kind {
     Id,
+    Edges {
+        nodes: u32,
+    },
     Entries {
         both: bool,
     },
@@ -39,6 +56,24 @@ pub enum Kind {
         algorithm: Algorithm,
         nodes: u32,
     },
+    Group {
+        block: u32,
+    },
+    Cut {
+        block: u32,
+    },
+    Blocks,
+    InBlocks {
+        role: BlockRole,
+        algorithm: Algorithm,
+        nodes: u32,
+        block: u32,
+    },
+    /// `diag1`, for components.
+    Diagonal {
+        nodes: u32,
+        block: u32,
+    },
 }
 
 /// The role that these words name, if there is one.
@@ -46,41 +81,69 @@ pub fn read_kind(words: &[String]) -> Option<Kind>
     ensures is { result ≡ kind_of (map string_bytes words.now) }
     ensures nodes { IfSome result HasNodes }
 {
-    let role = bytes_at(words, 0);
-    match words.len() {
-        1 => read_alone(role),
-        2 => read_with_sides(role, bytes_at(words, 1)),
-        3 => read_over_nodes(role, bytes_at(words, 1), bytes_at(words, 2)),
-        _ => None,
+    read_asked(RoleName::named(bytes_at(words, 0))?, words)
+}
+
+/// The table of roles: what these words ask for, where the first one names this role.
+fn read_asked(role: RoleName, words: &[String]) -> Option<Kind>
+    ensures is { result ≡ asked_of (map string_bytes words.now) role }
+    ensures nodes { IfSome result HasNodes }
+{
+    match role {
+        RoleName::Id => read_alone(Kind::Id, words),
+        RoleName::Edges => read_edges(words),
+        RoleName::Entries => read_with_sides(words),
+        RoleName::Degrees => read_alone(Kind::Degrees, words),
+        RoleName::First => read_over_nodes(NodeRole::First, words),
+        RoleName::Stage1 => read_over_nodes(NodeRole::Stage1, words),
+        RoleName::Stage2 => read_over_nodes(NodeRole::Stage2, words),
+        RoleName::Number => read_over_nodes(NodeRole::Number, words),
+        RoleName::Group => read_group(words),
+        RoleName::FirstB => read_over_blocks(BlockRole::FirstB, words),
+        RoleName::Cut => read_cut(words),
+        RoleName::Blocks => read_alone(Kind::Blocks, words),
+        RoleName::Block1 => read_over_blocks(BlockRole::Block1, words),
+        RoleName::Diag1 => read_closed(words),
+        RoleName::Block2 => read_over_blocks(BlockRole::Block2, words),
+        RoleName::Unblock => read_over_blocks(BlockRole::Unblock, words),
+        RoleName::Unplace => read_over_blocks(BlockRole::Unplace, words),
+        RoleName::Place => read_alone(Kind::Place, words),
     }
 }
 
 /// A role that is a word by itself.
-fn read_alone(role: &[u8]) -> Option<Kind>
-    ensures is { result ≡ alone role.now }
+fn read_alone(kind: Kind, words: &[String]) -> Option<Kind>
+    requires { HasNodes kind }
+    ensures is { result ≡ alone kind (map string_bytes words.now) }
     ensures nodes { IfSome result HasNodes }
 {
-    if role == b"id".as_slice() {
-        return Some(Kind::Id);
+    if words.len() != 1 {
+        return None;
     }
-    if role == b"degrees".as_slice() {
-        return Some(Kind::Degrees);
+    Some(kind)
+}
+
+/// The role `edges`.
+fn read_edges(words: &[String]) -> Option<Kind>
+    ensures is { result ≡ option_map Kind.Edges (only_nodes (map string_bytes words.now)) }
+    ensures nodes { IfSome result HasNodes }
+{
+    if words.len() != 2 {
+        return None;
     }
-    if role == b"place".as_slice() {
-        return Some(Kind::Place);
-    }
-    None
+    let nodes = read_node_count(bytes_at(words, 1))?;
+    Some(Kind::Edges { nodes })
 }
 
 /// The role `entries`, with one entry or both for an edge.
-fn read_with_sides(role: &[u8], sides: &[u8]) -> Option<Kind>
-    ensures is { result ≡ with_sides role.now sides.now }
+fn read_with_sides(words: &[String]) -> Option<Kind>
+    ensures is { result ≡ with_sides (map string_bytes words.now) }
     ensures nodes { IfSome result HasNodes }
 {
-    if role != b"entries".as_slice() {
+    if words.len() != 2 {
         return None;
     }
-    let both = read_sides(sides)?;
+    let both = read_sides(bytes_at(words, 1))?;
     Some(Kind::Entries { both })
 }
 
@@ -97,13 +160,15 @@ fn read_sides(word: &[u8]) -> Option<bool>
 }
 
 /// A role over the nodes of an algorithm.
-fn read_over_nodes(role: &[u8], algorithm: &[u8], nodes: &[u8]) -> Option<Kind>
-    ensures is { result ≡ over_nodes role.now algorithm.now nodes.now }
+fn read_over_nodes(role: NodeRole, words: &[String]) -> Option<Kind>
+    ensures is { result ≡ over_nodes role (map string_bytes words.now) }
     ensures nodes { IfSome result HasNodes }
 {
-    let role = read_node_role(role)?;
-    let algorithm = read_algorithm(algorithm)?;
-    let nodes = read_node_count(nodes)?;
+    if words.len() != 3 {
+        return None;
+    }
+    let algorithm = read_algorithm(bytes_at(words, 1))?;
+    let nodes = read_node_count(bytes_at(words, 2))?;
     Some(Kind::Nodes {
         role,
         algorithm,
@@ -111,22 +176,65 @@ fn read_over_nodes(role: &[u8], algorithm: &[u8], nodes: &[u8]) -> Option<Kind>
     })
 }
 
-fn read_node_role(word: &[u8]) -> Option<NodeRole>
-    ensures { result ≡ node_role_of word.now }
+/// The role `group`.
+fn read_group(words: &[String]) -> Option<Kind>
+    ensures is { result ≡ option_map Kind.Group (only_length (map string_bytes words.now)) }
+    ensures nodes { IfSome result HasNodes }
 {
-    if word == b"first".as_slice() {
-        return Some(NodeRole::First);
+    let block = read_only_length(words)?;
+    Some(Kind::Group { block })
+}
+
+/// The role `cut`.
+fn read_cut(words: &[String]) -> Option<Kind>
+    ensures is { result ≡ option_map Kind.Cut (only_length (map string_bytes words.now)) }
+    ensures nodes { IfSome result HasNodes }
+{
+    let block = read_only_length(words)?;
+    Some(Kind::Cut { block })
+}
+
+/// The length of a block, where nothing else follows the name of a role.
+fn read_only_length(words: &[String]) -> Option<u32>
+    ensures is { result ≡ only_length (map string_bytes words.now) }
+    ensures some { IfSome result (λ block. 1 ≤ block) }
+{
+    if words.len() != 2 {
+        return None;
     }
-    if word == b"stage1".as_slice() {
-        return Some(NodeRole::Stage1);
+    read_block_length(bytes_at(words, 1))
+}
+
+/// A role over the blocks of an algorithm's nodes.
+fn read_over_blocks(role: BlockRole, words: &[String]) -> Option<Kind>
+    ensures is { result ≡ over_blocks role (map string_bytes words.now) }
+    ensures nodes { IfSome result HasNodes }
+{
+    if words.len() != 4 {
+        return None;
     }
-    if word == b"stage2".as_slice() {
-        return Some(NodeRole::Stage2);
+    let algorithm = read_algorithm(bytes_at(words, 1))?;
+    let nodes = read_node_count(bytes_at(words, 2))?;
+    let block = read_block_length(bytes_at(words, 3))?;
+    Some(Kind::InBlocks {
+        role,
+        algorithm,
+        nodes,
+        block,
+    })
+}
+
+/// The role `diag1`.
+fn read_closed(words: &[String]) -> Option<Kind>
+    ensures is { result ≡ closed_in_blocks (map string_bytes words.now) }
+    ensures nodes { IfSome result HasNodes }
+{
+    if words.len() != 3 {
+        return None;
     }
-    if word == b"number".as_slice() {
-        return Some(NodeRole::Number);
-    }
-    None
+    let nodes = read_node_count(bytes_at(words, 1))?;
+    let block = read_block_length(bytes_at(words, 2))?;
+    Some(Kind::Diagonal { nodes, block })
 }
 
 fn read_algorithm(word: &[u8]) -> Option<Algorithm>
@@ -149,4 +257,13 @@ fn read_node_count(word: &[u8]) -> Option<u32>
 {
     let nodes = number_between(1, MOST_NODES, word)?;
     Some(nodes as u32)
+}
+
+/// The number of nodes of a block, from 1 to 256.
+fn read_block_length(word: &[u8]) -> Option<u32>
+    ensures is { result ≡ block_length_of word.now }
+    ensures some { IfSome result (λ block. 1 ≤ block) }
+{
+    let block = number_between(1, LONGEST_BLOCK, word)?;
+    Some(block as u32)
 }

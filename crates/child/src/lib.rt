@@ -2,8 +2,10 @@
 #![tactic(auto)]
 
 mod dispatch;
+mod edges;
 mod feeding;
 mod kinds;
+mod roles;
 mod run;
 mod status;
 #[cfg(test)]

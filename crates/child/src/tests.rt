@@ -35,8 +35,13 @@ fn run(
 
 #[test]
 fn roles_write_in_any_cutting(rt: HostRuntime) -> Result<(), Fail> {
-    let cases: [(&str, &[u8], &[u8]); 14] = [
+    let cases: [(&str, &[u8], &[u8]); 29] = [
         ("id", b"a\tb\n\nc", b"a\tb\n\nc\n"),
+        (
+            "edges 3",
+            b"# source\ttarget\r\n0\t1\r\n\r\n\n002\t1",
+            b"0\t1\n2\t1\n",
+        ),
         ("entries one", b"0\t1\n1\t2\n", b"1\tW 0 1\n2\tW 1 1\n"),
         (
             "entries both",
@@ -86,6 +91,72 @@ fn roles_write_in_any_cutting(rt: HostRuntime) -> Result<(), Fail> {
             b"0\tV 1 322122547\n1\tV 0 322122547\n",
         ),
         ("number pagerank 2", b"1\tV 1 7\n", b"1\t7\n"),
+        (
+            "group 2",
+            b"0\tP 0\n1\tP 2\n2\tP 1\n3\tP 3\n",
+            b"0\tP 0 0\n0\tP 1 2\n1\tP 0 1\n1\tP 1 3\n",
+        ),
+        (
+            "firstb hcc 4 2",
+            b"0\tP 1 1\n0\tP 0 0\n1\tP 0 2\n1\tP 1 3\n",
+            b"0\tV 2 0,1\n1\tV 2 2,3\n",
+        ),
+        ("firstb hcc 6 4", b"1\tP 0 4\n1\tP 1 5\n", b"1\tV 2 4,5\n"),
+        (
+            "cut 2",
+            b"0\tW 1 1\n1\tW 2 1\n3\tW 2 007\n",
+            b"0.0\t1 0 1\n0.1\t0 1 1\n1.1\t0 1 7\n",
+        ),
+        (
+            "blocks",
+            b"0.0\t0 1 1\n0.0\t1 0 1\n0.1\t0 1 1\n1.0\t1 0 1\n1.1\t0 1 1\n1.1\t1 0 1\n",
+            b"0\tW 0 0:1:1,1:0:1\n0\tX 1 0:1:1\n1\tX 0 1:0:1\n1\tW 1 0:1:1,1:0:1\n",
+        ),
+        (
+            "block1 hcc 4 2",
+            b"0\tV 2 0,1\n0\tW 0 0:1:1,1:0:1\n0\tX 1 0:1:1\n1\tV 2 2,3\n1\tX 0 1:0:1\n",
+            b"0\tV 2 0,1\n0\tY 0:1,1:0\n1\tY 0:1\n1\tV 2 2,3\n0\tY 1:2\n",
+        ),
+        (
+            "block1 hcc 6 4",
+            b"1\tV 2 4,5\n1\tX 0 3:0:1\n",
+            b"1\tV 2 4,5\n0\tY 3:4\n",
+        ),
+        (
+            "block1 pagerank 2 2",
+            b"0\tV 2 2147483648,2147483648\n0\tW 0 1:0:1,1:1:1\n",
+            b"0\tV 2 2147483648,2147483648\n0\tY 1:3650722200\n",
+        ),
+        (
+            "diag1 4 2",
+            b"0\tV 2 0,1\n0\tX 1 0:1:1\n0\tW 0 0:1:1,1:0:1\n1\tV 2 2,3\n1\tW 1 0:1:1,1:0:1\n1\tX 0 1:0:1\n",
+            b"0\tV 2 0,1\n0\tY 0:0,1:0\n1\tY 0:0\n0\tY 0:0,1:0\n1\tV 2 2,3\n1\tY 0:2,1:2\n1\tY 0:2,1:2\n0\tY 1:2\n",
+        ),
+        (
+            "diag1 4 4",
+            b"0\tV 4 0,1,2,3\n0\tW 0 0:1:1,1:0:1,1:2:1,2:1:1,2:3:1,3:2:1\n",
+            b"0\tV 4 0,1,2,3\n0\tY 0:0,1:0,2:0,3:0\n0\tY 0:0,1:0,2:0,3:0\n",
+        ),
+        (
+            "block2 hcc 4 2",
+            b"0\tV 2 0,1\n0\tY 0:1,1:0\n0\tY 1:2\n1\tV 2 2,3\n",
+            b"0\tV 1 0,0\n1\tV 0 2,3\n",
+        ),
+        (
+            "block2 pagerank 2 2",
+            b"0\tV 2 2147483648,2147483648\n0\tY 1:3650722200\n",
+            b"0\tV 2 322122547,3972844747\n",
+        ),
+        (
+            "unblock hcc 4 2",
+            b"0\tV 1 0,0\n1\tV 2 1,2\n",
+            b"0\t0\n1\t0\n2\t1\n3\t2\n",
+        ),
+        (
+            "unplace hcc 4 2",
+            b"0\tV 2 0,0\n1\tP 2\n1\tV 2 1,1\n",
+            b"0\tQ 0\n1\tQ 0\n1\tP 2\n2\tQ 1\n3\tQ 1\n",
+        ),
     ];
     for (line, bytes, want) in cases {
         for piece in [1, 2, 7, 65_536] {
@@ -123,12 +194,22 @@ fn no_records_give_nothing(rt: HostRuntime) -> Result<(), Fail> {
         "id",
         "entries one",
         "entries both",
+        "edges 1073741824",
         "degrees",
         "place",
         "first hcc 1",
         "stage1 pagerank 1073741824",
         "stage2 hadi=0 6",
         "number hcc 6",
+        "group 256",
+        "firstb hcc 6 1",
+        "cut 1",
+        "blocks",
+        "block1 hadi=0 1073741824 256",
+        "diag1 6 2",
+        "block2 pagerank 6 2",
+        "unblock hcc 6 2",
+        "unplace hcc 6 2",
     ];
     for line in lines {
         let (status, out) = run(rt.alloc(), line, b"", 7, &[], &[])?;
@@ -149,6 +230,9 @@ fn other_words_are_refused_unread(rt: HostRuntime) -> Result<(), Fail> {
         "entries two",
         "entries both both",
         "degrees 6",
+        "edges",
+        "edges 0",
+        "edges 6 6",
         "first hcc",
         "first hcc 0",
         "first hcc 1073741825",
@@ -158,7 +242,17 @@ fn other_words_are_refused_unread(rt: HostRuntime) -> Result<(), Fail> {
         "stage2 hadi= 6",
         "stage2 hadi=x 6",
         "number hcc -1",
-        "block1 hcc 6 2",
+        "group",
+        "group 0",
+        "cut 257",
+        "cut 2 2",
+        "blocks 2",
+        "block1 hcc 6",
+        "block2 6 hcc 2",
+        "diag1 hcc 6 2",
+        "diag1 6 0",
+        "unblock hcc 0 2",
+        "place 6",
     ];
     for line in lines {
         let (status, out) = run(rt.alloc(), line, b"0\t1\n", 7, &[0], &[0])?;
@@ -170,13 +264,15 @@ fn other_words_are_refused_unread(rt: HostRuntime) -> Result<(), Fail> {
 
 #[test]
 fn the_first_bad_record_is_named(rt: HostRuntime) -> Result<(), Fail> {
-    let cases: [(&str, &[u8], u64, &[u8]); 14] = [
+    let cases: [(&str, &[u8], u64, &[u8]); 37] = [
         (
             "entries both",
             b"0\t1\n0\n1\t2\n",
             2,
             b"1\tW 0 1\n0\tW 1 1\n",
         ),
+        ("edges 2", b"0\t1\n#\n0\t2\n", 3, b"0\t1\n"),
+        ("edges 2", b"\n0\t1 \n", 2, b""),
         ("degrees", b"0\t1\n0\tx", 2, b""),
         ("place", b"0\tP 5\n1\tP 0\n", 1, b""),
         ("place", b"0\tP 5\n0\tQ 9\n1\tP 0", 3, b"5\t9\n"),
@@ -195,6 +291,62 @@ fn the_first_bad_record_is_named(rt: HostRuntime) -> Result<(), Fail> {
             2,
             b"0\tV 1 9\n",
         ),
+        ("group 2", b"0\tP 0\n0\tQ 0\n", 2, b"0\tP 0 0\n"),
+        ("firstb hcc 4 2", b"0\tP 0 0\n0\tP 0 1\n", 2, b""),
+        ("firstb hcc 4 2", b"0\tP 0 0\n1\tP 0 2\n", 1, b""),
+        ("firstb hcc 4 2", b"0\tP 1 1\n", 1, b""),
+        ("firstb hcc 4 2", b"2\tP 0 0\n", 1, b""),
+        ("firstb hcc 3 2", b"1\tP 1 2\n", 1, b""),
+        ("cut 2", b"0\tW 1 1\n0\tW 1 0\n", 2, b"0.0\t1 0 1\n"),
+        ("blocks", b"0.0\t0 0 1\n0.0\t0 0\n", 2, b"0\tW 0 0:0:1\n"),
+        ("blocks", b"00\t0 0 1\n", 1, b""),
+        ("block1 hcc 4 2", b"0\tW 0 0:1:1\n", 1, b""),
+        (
+            "block1 hcc 4 2",
+            b"0\tV 2 0,1\n0\tV 2 0,1\n",
+            2,
+            b"0\tV 2 0,1\n",
+        ),
+        (
+            "block1 hcc 4 2",
+            b"0\tV 2 0,1\n0\tX 0 0:1:1\n",
+            2,
+            b"0\tV 2 0,1\n",
+        ),
+        (
+            "block1 hcc 4 2",
+            b"0\tV 2 0,1\n0\tW 0 \n",
+            2,
+            b"0\tV 2 0,1\n",
+        ),
+        (
+            "block1 hcc 3 2",
+            b"0\tV 2 0,1\n0\tX 1 1:0:1\n",
+            2,
+            b"0\tV 2 0,1\n",
+        ),
+        (
+            "block1 hcc 3 2",
+            b"1\tV 1 2\n1\tX 0 0:1:1\n",
+            2,
+            b"1\tV 1 2\n",
+        ),
+        ("block1 hcc 3 2", b"1\tV 2 2,3\n", 1, b""),
+        (
+            "diag1 4 2",
+            b"0\tV 2 0,1\n0\tX 1 0:1:1,0:2:1\n",
+            2,
+            b"0\tV 2 0,1\n",
+        ),
+        ("block2 hcc 4 2", b"0\tV 2 0,1\n0\tY 2:0\n", 2, b""),
+        (
+            "block2 hcc 4 2",
+            b"0\tV 2 0,1\n1\tY 0:0\n",
+            2,
+            b"0\tV 0 0,1\n",
+        ),
+        ("unblock hcc 4 2", b"0\tV 257 0,1\n", 1, b""),
+        ("unplace hcc 4 2", b"0\tQ 0\n", 1, b""),
     ];
     for (words, bytes, line, certain) in cases {
         for piece in [1, 2, 7, 65_536] {

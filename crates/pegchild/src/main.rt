@@ -14,6 +14,7 @@ pegchild: one role of a streaming job, from standard input to standard output
 usage: pegchild ROLE [WORD ..]
 
 id                    each line as it is
+edges N               a line of an edge list as `s TAB t`, with ids below N; nothing for an empty line or a comment
 entries one           an edge `s TAB t` as the entry `t TAB W s 1`
 entries both          the same, and then `s TAB W t 1`
 degrees               edges in groups of one source s: `s TAB W t d` for each, d edges in all
@@ -21,9 +22,20 @@ first ALG N           `p TAB P i` as the first value of node i: `p TAB V 1 value
 stage1 ALG N          groups of one `j TAB V c value`, then `j TAB W r m`: the value, and then `r TAB Y message` for each W
 stage2 ALG N          groups of one `i TAB V c value`, then `i TAB Y message`: the new value, with c 0 where it is the same
 number ALG N          `i TAB V c value` as `i TAB number`
+group B               `p TAB P i` by its block: `J TAB P o i`, with J = p div B and o = p mod B
+firstb ALG N B        groups of `J TAB P o i`: the first values of the block, by o: `J TAB V size values`
+cut B                 an entry `c TAB W r m` by the blocks of its column and its row: `J.I TAB r c m`, r and c mod B
+blocks                groups of one `J.I`: lines `J TAB T I items`, an item `r:c:m` for each, T is W where I = J, else X
+block1 ALG N B        groups of one `J TAB V c values`, then `J TAB T I items`: the values, and then `I TAB Y parts` for each
+                      line, a part `r:message` for each row
+diag1 N B             as block1 hcc, where the values spread within the block first, and are sent to it as parts too
+block2 ALG N B        groups of one `I TAB V c values`, then `I TAB Y parts`: the new values, c of them not the same
+unblock ALG N B       `J TAB V c values` as a line `i TAB number` for each node
+unplace ALG N B       the same as lines `p TAB Q number`; a line `p TAB P i` stays as it is
 place                 groups of `p TAB P i` and `p TAB Q number`: `i TAB number`
 
-ALG is hcc, pagerank or hadi=SEED, and N is the number of nodes, 1 to 1073741824.
+ALG is hcc, pagerank or hadi=SEED, N is the number of nodes, 1 to 1073741824, and B the nodes of a block, 1 to 256; the last
+block may have fewer.
 A group is a run of lines with the same text before the first TAB.
 The status is 0, or 2 for other words, 65 for a bad line, 66 for more than 2^50 bytes, 70 for want of memory, and 74
 where a stream failed.
