@@ -68,7 +68,7 @@ for length in 16 256; do
         for (block = 0; block * size < nodes; block++) {
             end = (block + 1) * size; if (end > nodes) end = nodes
             printf "%d\tV %d ", block, end - block * size
-            for (node = block * size; node < end; node++) printf "%s%d", node > block * size ? "," : "", node
+            for (node = block * size; node < end; node++) printf "%s%d", (node > block * size ? "," : ""), node
             print ""
         }
     }' >"$data/values"
