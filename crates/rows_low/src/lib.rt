@@ -1,14 +1,10 @@
-//! Tests of the crates below the driver, over a directory in memory.
+//! Tests of the crates below the driver that have an oracle of their own, over a directory in memory.
 #![tactic(auto)]
 
-#[cfg(test)]
-mod committer_rows;
 #[cfg(test)]
 mod dir_rows;
 #[cfg(test)]
 mod merge_rows;
-#[cfg(test)]
-mod shuffle_rows;
 #[cfg(test)]
 mod spill_rows;
 #[cfg(test)]

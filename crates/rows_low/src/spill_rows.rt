@@ -1,13 +1,13 @@
 ghost use Rattle.std.specs.Prelude.{◌≡◌, ◌≢◌, ◌<◌, true, All, IfOk};
 
-use crate::tools::{empty, failing};
+use crate::tools::empty;
 use crate::tried_dir::TriedDir;
 use dir_disk::Dir;
 use partition::part_of;
 use peg_base::Path;
 use peg_text::{records, split_pair};
 use rows_tools::path_of;
-use spill::{Spill, SpillFault};
+use spill::Spill;
 use std::alloc::Global;
 use std::test::Fail;
 
@@ -59,22 +59,6 @@ fn sorted_pairs(alloc: Global, text: &[u8]) -> Result<Vec<Pair>, Fail> {
 /// The text of a file.
 fn text_in(alloc: Global, dir: &mut TriedDir, path: &Path) -> Result<Vec<u8>, Fail> {
     Ok(dir.read(alloc, path, 0, 1 << 20).map_err(|_| "no read")?)
-}
-
-#[test]
-fn a_run_has_its_pairs_in_order(rt: HostRuntime) -> Result<(), Fail> {
-    let alloc = rt.alloc();
-    let mut dir = empty(alloc);
-    let mut spill = spill_of(alloc, 4, 1)?;
-    push(alloc, &mut spill, b"b", b"2")?;
-    assert!(rt; !spill.full());
-    push(alloc, &mut spill, b"a", b"1")?;
-    assert!(rt; spill.full());
-    assert_eq!(rt; spill.flush(alloc, &mut dir), Ok(()));
-    let run = path_of(alloc, &[b"shuffle", b"run-00000-00000000000000000000"])?;
-    let text = text_in(alloc, &mut dir, &run)?;
-    assert_eq!(rt; text.as_slice(), b"a\t1\nb\t2\n".as_slice());
-    Ok(())
 }
 
 /// So many pairs that look random, of few keys and values.
@@ -137,34 +121,35 @@ fn has_part(
     Ok(found == wanted)
 }
 
+/// Whether the runs of each of three parts have just its pairs, where so many bytes make a spill full.
+fn spills_well(
+    alloc: Global,
+    dir: &mut TriedDir,
+    spill: &mut Spill,
+    pairs: &[Pair],
+) -> Result<bool, Fail>
+    requires { spill.old.reducers ≡ 3 }
+{
+    spill_all(alloc, dir, spill, pairs)?;
+    Ok(
+        has_part(alloc, dir, spill, 0, pairs)?
+            && has_part(alloc, dir, spill, 1, pairs)?
+            && has_part(alloc, dir, spill, 2, pairs)?,
+    )
+}
+
+fn holds_at(alloc: Global, limit: u64, pairs: &[Pair]) -> Result<bool, Fail> {
+    let mut spill = spill_of(alloc, limit, 3)?;
+    let mut dir = empty(alloc);
+    spills_well(alloc, &mut dir, &mut spill, pairs)
+}
+
 #[test]
 fn runs_have_the_pairs_that_were_pushed_at_any_limit(rt: HostRuntime) -> Result<(), Fail> {
     let alloc = rt.alloc();
     for limit in 1..41u64 {
         let pairs = random_pairs(alloc, limit, 40)?;
-        let mut dir = empty(alloc);
-        let mut spill = spill_of(alloc, limit, 3)?;
-        spill_all(alloc, &mut dir, &mut spill, &pairs)?;
-        assert!(rt; has_part(alloc, &mut dir, &spill, 0, &pairs)?, "{limit}");
-        assert!(rt; has_part(alloc, &mut dir, &spill, 1, &pairs)?, "{limit}");
-        assert!(rt; has_part(alloc, &mut dir, &spill, 2, &pairs)?, "{limit}");
-    }
-    Ok(())
-}
-
-#[test]
-fn a_run_that_cannot_be_written_is_a_disk_fault(rt: HostRuntime) -> Result<(), Fail> {
-    let alloc = rt.alloc();
-    for (call, answer) in [
-        (0, Err(SpillFault::Disk)),
-        (1, Err(SpillFault::Disk)),
-        (2, Ok(())),
-    ] {
-        let mut dir = failing(alloc, call)?;
-        let mut spill = spill_of(alloc, 100, 2)?;
-        push(alloc, &mut spill, b"0", b"x")?;
-        push(alloc, &mut spill, b"1", b"y")?;
-        assert_eq!(rt; spill.flush(alloc, &mut dir), answer, "call {call}");
+        assert!(rt; holds_at(alloc, limit, &pairs)?, "{limit}");
     }
     Ok(())
 }

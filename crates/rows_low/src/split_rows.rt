@@ -1,4 +1,5 @@
 use crate::tools::empty;
+use crate::tried_dir::TriedDir;
 use dir_disk::Dir;
 use peg_text::records;
 use rows_tools::path_of;
@@ -15,11 +16,15 @@ struct Lines {
 
 /// Writes the lines of a split of a file that has this text.
 fn written(alloc: Global, text: &[u8], split: Split) -> Result<Lines, Fail> {
+    let mut dir = empty(alloc);
+    written_in(alloc, &mut dir, text, split)
+}
+
+fn written_in(alloc: Global, dir: &mut TriedDir, text: &[u8], split: Split) -> Result<Lines, Fail> {
     let path = path_of(alloc, &[b"in"])?;
     let out = path_of(alloc, &[b"folder", b"out"])?;
-    let mut dir = empty(alloc);
     dir.append(alloc, &path, text).map_err(|_| "no append")?;
-    let count = lines_of_split(alloc, &mut dir, &path, &split, &out)?;
+    let count = lines_of_split(alloc, dir, &path, &split, &out)?;
     if dir.size(alloc, &out).map_err(|_| "no size")?.is_none() {
         return Err("no file")?;
     }
@@ -105,22 +110,6 @@ fn the_splits_of_each_length_have_all_lines(rt: HostRuntime) -> Result<(), Fail>
             let all = of_all_splits(alloc, text, length)?;
             assert_eq!(rt; all.as_slice(), want, "splits of {length} bytes");
         }
-    }
-    Ok(())
-}
-
-#[test]
-fn an_edge_list_is_cut_at_its_lines(rt: HostRuntime) -> Result<(), Fail> {
-    let alloc = rt.alloc();
-    let cases: [(u64, u64, u64, &[u8]); 3] = [
-        (0, 4, 2, b"0\t1\n1\t2\n"),
-        (4, 8, 1, b"3\t4\n"),
-        (8, 12, 0, b""),
-    ];
-    for (start, end, count, want) in cases {
-        let lines = written(alloc, b"0\t1\n1\t2\n3\t4\n", Split { start, end })?;
-        assert_eq!(rt; lines.count, count);
-        assert_eq!(rt; lines.text.as_slice(), want);
     }
     Ok(())
 }

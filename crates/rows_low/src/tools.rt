@@ -6,13 +6,6 @@ use dir_mem::{Image, MemDir};
 use std::alloc::Global;
 use std::test::Fail;
 
-/// A directory without files, whose call of this number fails.
-pub(crate) fn failing(alloc: Global, call: u64) -> Result<TriedDir, Fail> {
-    let mut dir = MemDir::new(alloc);
-    dir.fail(vec![in alloc; call]?);
-    Ok(TriedDir { dir })
-}
-
 /// A directory without files.
 pub(crate) fn empty(alloc: Global) -> TriedDir {
     TriedDir {

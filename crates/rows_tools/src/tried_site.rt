@@ -9,14 +9,42 @@ use peg_base::{Attempt, Path, Words};
 use site_mem::{MemSite, Roles};
 use std::alloc::Global;
 
+/// How many bytes were said in all, up to a say at this moment.
+#[derive(Clone, Copy)]
+struct Mark {
+    moment: u64,
+    said: usize,
+}
+
 /// A site in memory that tries what a call needs when it is made, where a caller would prove it: one that may not be made
-/// answers that there is no memory.
+/// answers that there is no memory. It also knows what was said by each moment.
 #[derive(Drop)]
 pub struct TriedSite<R: Roles + Drop> {
     pub site: MemSite<R>,
+    marks: Vec<Mark>,
 }
 
 impl<R: Roles + Drop> TriedSite<R> {
+    /// The site, at which nothing was said yet.
+    pub fn new(alloc: Global, site: MemSite<R>) -> TriedSite<R> {
+        TriedSite {
+            site,
+            marks: Vec::new(alloc),
+        }
+    }
+
+    /// What was said before the call of the directory of this number.
+    pub fn said_by(&self, moment: u64) -> &[u8] {
+        let mut said = 0;
+        for mark in &self.marks {
+            if mark.moment <= moment {
+                said = mark.said;
+            }
+        }
+        let all = self.site.said();
+        all.get(..said).unwrap_or(all)
+    }
+
     /// Starts a child, with all that a start needs tried.
     pub fn launch(
         &mut self,
@@ -132,7 +160,19 @@ impl<R: Roles + Drop> Console for TriedSite<R> {
     ghost beside = { λ s. (s.site.dir, s.site.seen, s.site.given, s.site.plan) };
 
     fn say(&mut self, alloc: Global, bytes: &[u8]) -> Result<(), SayFault> {
-        self.site.say(alloc, bytes)
+        if self.marks.reserve(1).is_err() {
+            return Err(SayFault::NoMemory);
+        }
+        if let Err(fault) = self.site.say(alloc, bytes) {
+            return Err(fault);
+        }
+        let mark = Mark {
+            moment: self.site.dir().calls(),
+            said: self.site.said().len(),
+        };
+        // There is room for it.
+        let _ = self.marks.push(mark);
+        Ok(())
     }
 }
 

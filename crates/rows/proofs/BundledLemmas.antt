@@ -3,7 +3,7 @@ use Rattle.std.proofs.Common.{◌≡◌, ◌≢◌, ℕ, List, [], Option, Some,
 use Rattle.std.specs.Option.{unwrap_or}
 use Rattle.gimv_base.specs.Rules.{Rule}
 use Rattle.child.specs.Child.{IsDone}
-use Rattle.rows_job.specs.Bundled.{given_by}
+use Rattle.rows.specs.Bundled.{given_by}
 
 pub given_is : (rule : Option Rule) (bytes out : List ℕ) (left left' before : Option (List ℕ)) → left ≡ Some bytes → before ≡ Some [] → rule ≢ None → IfSome rule (λ r. IsDone r left left' before (Some out)) → out ≡ given_by rule bytes
 given_is None bytes out left left' before is_left is_before some done = absurd (some refl)

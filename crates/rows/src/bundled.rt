@@ -1,7 +1,7 @@
 ghost use Rattle.std.specs.Prelude.{◌≡◌, IfOk, map};
 ghost use Rattle.std.specs.String.{string_bytes};
 ghost use Rattle.child.specs.Words.{rule_of};
-ghost use Rattle.rows_job.specs.Bundled.{given_by};
+ghost use Rattle.rows.specs.Bundled.{given_by};
 
 use child::{ChildStatus, run_child};
 use dir_disk::{MemSink, MemSource};
@@ -43,7 +43,7 @@ fn answer_of(alloc: Global, words: &[String], input: &[u8]) -> Result<Vec<u8>, N
 pub(crate) struct Bundled;
 
 impl Roles for Bundled {
-    ghost use Rattle.rows_job.specs.Bundled.{bundled};
+    ghost use Rattle.rows.specs.Bundled.{bundled};
 
     ghost gives = { bundled };
 

@@ -1,8 +1,8 @@
 use Rattle.std.proofs.Common.{◌≡◌, ◌≢◌, ◌∙◌, ℕ, List, Some, None, map, ap, sym, refl}
 use Rattle.std.specs.String.{string_bytes}
 use Rattle.child.specs.Words.{rule_of}
-use Rattle.rows_job.proofs.BundledLemmas.{given_is}
-use Rattle.rows_job.proofs.bundled.answer_of.Goals as goal
+use Rattle.rows.proofs.BundledLemmas.{given_is}
+use Rattle.rows.proofs.bundled.answer_of.Goals as goal
 
 pub returns-in-Ok : goal.returns-in-Ok
 returns-in-Ok c =

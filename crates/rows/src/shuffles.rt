@@ -1,0 +1,161 @@
+ghost use Rattle.std.specs.Prelude.{◌≡◌, ◌≢◌, true, All};
+
+use crate::directory::{rest, word};
+use crate::reading::{number_of, path_of};
+use crate::settings::{check_settings, number_in, path_in, paths_in, small_in, text_in};
+use crate::trouble::Trouble;
+use crate::world::World;
+use crate::writing::{number, text};
+use job::{ShuffleFault, shuffle};
+use merge::{MergeFault, merge_runs};
+use peg_base::Path;
+use peg_text::{records, split_pair};
+use spill::{Spill, SpillFault};
+use splits::{Split, SplitFault, lines_of_split};
+use std::alloc::Global;
+
+/// `PATH START END into PATH`: writes the lines that begin in a split, and answers how many they are.
+pub(crate) fn split(
+    alloc: Global,
+    world: &mut World,
+    args: &[Vec<u8>],
+) -> Result<Vec<u8>, Trouble> {
+    let path = path_of(alloc, word(args, 0))?;
+    let split = Split {
+        start: number_of(word(args, 1))?,
+        end: number_of(word(args, 2))?,
+    };
+    check_settings(rest(args, 3), &[b"into"])?;
+    let out = path_in(alloc, rest(args, 3), b"into")?;
+    if world.site.site.running() != 0 {
+        return Err(Trouble::Misread);
+    }
+    match lines_of_split(alloc, &mut world.site, &path, &split, &out) {
+        Ok(lines) => number(alloc, lines),
+        Err(SplitFault::Disk) => text(alloc, b"disk"),
+        Err(SplitFault::NoMemory) => text(alloc, b"memory"),
+    }
+}
+
+/// `PATH from RUN .. scratch FOLDER`: merges runs, and answers how many pairs they have.
+pub(crate) fn merge(
+    alloc: Global,
+    world: &mut World,
+    args: &[Vec<u8>],
+) -> Result<Vec<u8>, Trouble> {
+    let out = path_of(alloc, word(args, 0))?;
+    check_settings(rest(args, 1), &[b"from", b"scratch"])?;
+    let runs = paths_in(alloc, rest(args, 1), b"from")?;
+    let scratch = path_in(alloc, rest(args, 1), b"scratch")?;
+    if out.under(&scratch) || scratch.under(&out) || scratch.names().len() >= 8 {
+        return Err(Trouble::Misread);
+    }
+    if world.site.site.running() != 0 {
+        return Err(Trouble::Misread);
+    }
+    match merge_runs(alloc, &mut world.site, &runs, &scratch, &out) {
+        Ok(pairs) => number(alloc, pairs),
+        Err(MergeFault::Disk) => text(alloc, b"disk"),
+        Err(MergeFault::NoMemory) => text(alloc, b"memory"),
+    }
+}
+
+/// `FOLDER from OUTPUT .. parts N spill N`: shuffles outputs of map tasks, and answers how many pairs they have.
+pub(crate) fn shuffle_outputs(
+    alloc: Global,
+    world: &mut World,
+    args: &[Vec<u8>],
+) -> Result<Vec<u8>, Trouble> {
+    let folder = path_of(alloc, word(args, 0))?;
+    check_settings(rest(args, 1), &[b"from", b"parts", b"spill"])?;
+    let outputs = paths_in(alloc, rest(args, 1), b"from")?;
+    let parts = small_in(rest(args, 1), b"parts", 1)?;
+    let limit = number_in(rest(args, 1), b"spill", 1024)?;
+    if folder.names().len() > 4 || parts == 0 || parts > 64 {
+        return Err(Trouble::Misread);
+    }
+    if world.site.site.running() != 0 {
+        return Err(Trouble::Misread);
+    }
+    match shuffle(alloc, &mut world.site, &folder, &outputs, parts, limit) {
+        Ok(pairs) => number(alloc, pairs),
+        Err(ShuffleFault::Disk) => text(alloc, b"disk"),
+        Err(ShuffleFault::NoMemory) => text(alloc, b"memory"),
+    }
+}
+
+/// Whether no byte is this one.
+fn lacks(bytes: &[u8], byte: u8) -> bool
+    ensures { result ≡ true → All (λ b. b ≢ byte) bytes.now }
+{
+    bytes.iter().all(|found| *found != byte)
+}
+
+/// Adds the pair of a line to a spill.
+fn push_line(alloc: Global, spill: &mut Spill, line: &[u8]) -> Result<(), Trouble> {
+    let (key, value) = split_pair(line);
+    if !lacks(key, b'\t') || !lacks(key, b'\n') || !lacks(value, b'\n') {
+        return Err(Trouble::Misread);
+    }
+    spill.push(alloc, key, value)?;
+    Ok(())
+}
+
+/// Writes the pairs that a spill holds where no child runs.
+fn flush(
+    alloc: Global,
+    world: &mut World,
+    spill: &mut Spill,
+) -> Result<Result<(), SpillFault>, Trouble> {
+    if world.site.site.running() != 0 {
+        return Err(Trouble::Misread);
+    }
+    Ok(spill.flush(alloc, &mut world.site))
+}
+
+/// Adds the pairs of lines, and flushes wherever the spill is full and at the end.
+fn spill_all(
+    alloc: Global,
+    world: &mut World,
+    spill: &mut Spill,
+    lines: &[&[u8]],
+) -> Result<Result<(), SpillFault>, Trouble> {
+    for line in lines {
+        push_line(alloc, spill, line)?;
+        if spill.full()
+            && let Err(fault) = flush(alloc, world, spill)?
+        {
+            return Ok(Err(fault));
+        }
+    }
+    flush(alloc, world, spill)
+}
+
+/// A spill of these limits into a folder.
+fn spill_of(alloc: Global, folder: &Path, parts: u32, limit: u64) -> Result<Spill, Trouble> {
+    if parts == 0 || parts > 64 || folder.names().len() >= 8 {
+        return Err(Trouble::Misread);
+    }
+    Ok(Spill::new(alloc, limit, parts, folder)?)
+}
+
+/// `FOLDER pairs LINES parts N spill N`: writes the pairs of lines as runs in a folder.
+pub(crate) fn spill_lines(
+    alloc: Global,
+    world: &mut World,
+    args: &[Vec<u8>],
+) -> Result<Vec<u8>, Trouble> {
+    let folder = path_of(alloc, word(args, 0))?;
+    check_settings(rest(args, 1), &[b"pairs", b"parts", b"spill"])?;
+    let parts = small_in(rest(args, 1), b"parts", 1)?;
+    let limit = number_in(rest(args, 1), b"spill", 1024)?;
+    let mut spill = spill_of(alloc, &folder, parts, limit)?;
+    let Ok(lines) = records(alloc, text_in(rest(args, 1), b"pairs")?) else {
+        return Err(Trouble::NoMemory);
+    };
+    match spill_all(alloc, world, &mut spill, &lines)? {
+        Ok(()) => text(alloc, b"ok"),
+        Err(SpillFault::Disk) => text(alloc, b"disk"),
+        Err(SpillFault::NoMemory) => text(alloc, b"memory"),
+    }
+}
