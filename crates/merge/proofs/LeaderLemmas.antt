@@ -30,7 +30,7 @@ module _ (sources : List Source) (at : ℕ) (inside : at < length sources) (foun
     running = λ none. ap (λ (s : Source). s.ended) (same_at sources at none found inside) ∙ runs;
     first =
         λ other none from below still.
-        ap (λ (k : ℕ). pair_before (get_or sources at none).head (get_or sources k none).head) (alone other from below) ∙ before_itself (get_or sources at none).head;
+        ap (λ (k : ℕ). pair_before (get_or sources at none).lines.head (get_or sources k none).lines.head) (alone other from below) ∙ before_itself (get_or sources at none).lines.head;
   }
 
 -- ---- two sources
@@ -61,11 +61,11 @@ module _ (sources : List Source) (low mid high : ℕ) (up : low ≤ mid) (on : m
   }
 
   module _ (one other : ℕ) (first : IsLeast sources low mid one) (second : IsLeast sources mid high other) (a b : Source) where
-    heads : (none : Source) → pair_before (get_or sources one a).head (get_or sources other b).head ≡ pair_before (get_or sources one none).head (get_or sources other none).head
+    heads : (none : Source) → pair_before (get_or sources one a).lines.head (get_or sources other b).lines.head ≡ pair_before (get_or sources one none).lines.head (get_or sources other none).lines.head
     heads none =
-        ap (λ (s : Source). pair_before s.head (get_or sources other b).head) (same_at sources one a none first.inside) ∙ ap (λ (s : Source). pair_before (get_or sources one none).head s.head) (same_at sources other b none second.inside)
+        ap (λ (s : Source). pair_before s.lines.head (get_or sources other b).lines.head) (same_at sources one a none first.inside) ∙ ap (λ (s : Source). pair_before (get_or sources one none).lines.head s.lines.head) (same_at sources other b none second.inside)
 
-    pub first_least : pair_before (get_or sources one a).head (get_or sources other b).head ≡ true → IsLeast sources low high one
+    pub first_least : pair_before (get_or sources one a).lines.head (get_or sources other b).lines.head ≡ true → IsLeast sources low high one
     first_least before = record {
       from = first.from;
       below = omega (arith, first.below, on);
@@ -73,10 +73,10 @@ module _ (sources : List Source) (low mid high : ℕ) (up : low ≤ mid) (on : m
       running = first.running;
       first =
           λ k d from below runs.
-          ⊎_elim (λ (early : k < mid). first.first k d from early runs) (λ (late : mid ≤ k). pair_order.further (get_or sources one d).head (get_or sources other d).head (get_or sources k d).head (sym (heads d) ∙ before) (second.first k d late below runs)) (cases_lt k mid);
+          ⊎_elim (λ (early : k < mid). first.first k d from early runs) (λ (late : mid ≤ k). pair_order.further (get_or sources one d).lines.head (get_or sources other d).lines.head (get_or sources k d).lines.head (sym (heads d) ∙ before) (second.first k d late below runs)) (cases_lt k mid);
     }
 
-    pub second_least : pair_before (get_or sources one a).head (get_or sources other b).head ≡ false → IsLeast sources low high other
+    pub second_least : pair_before (get_or sources one a).lines.head (get_or sources other b).lines.head ≡ false → IsLeast sources low high other
     second_least fails = record {
       from = omega (arith, second.from, up);
       below = second.below;
@@ -84,7 +84,7 @@ module _ (sources : List Source) (low mid high : ℕ) (up : low ≤ mid) (on : m
       running = second.running;
       first =
           λ k d from below runs.
-          ⊎_elim (λ (early : k < mid). pair_order.further (get_or sources other d).head (get_or sources one d).head (get_or sources k d).head (pair_order.total (get_or sources one d).head (get_or sources other d).head (sym (heads d) ∙ fails)) (first.first k d from early runs)) (λ (late : mid ≤ k). second.first k d late below runs) (cases_lt k mid);
+          ⊎_elim (λ (early : k < mid). pair_order.further (get_or sources other d).lines.head (get_or sources one d).lines.head (get_or sources k d).lines.head (pair_order.total (get_or sources one d).lines.head (get_or sources other d).lines.head (sym (heads d) ∙ fails)) (first.first k d from early runs)) (λ (late : mid ≤ k). second.first k d late below runs) (cases_lt k mid);
     }
 
 pub inside_of : (sources : List Source) (low high : ℕ) (leader : Option ℕ) → IsLeastOf sources low high leader → IfSome leader (λ at. at < length sources)
@@ -115,7 +115,7 @@ still_least sources at new low high (Some k) apart least =
       first =
           λ other none from below runs.
           let there = get_or-set_other sources at other new none (apart other from below) in
-          ap (λ (s : Source). pair_before s.head (get_or (set sources at new) other none).head) (own none) ∙ ap (λ (s : Source). pair_before (get_or sources k none).head s.head) there ∙ least.first other none from below (sym (ap (λ (s : Source). s.ended) there) ∙ runs);
+          ap (λ (s : Source). pair_before s.lines.head (get_or (set sources at new) other none).lines.head) (own none) ∙ ap (λ (s : Source). pair_before (get_or sources k none).lines.head s.lines.head) there ∙ least.first other none from below (sym (ap (λ (s : Source). s.ended) there) ∙ runs);
     }
 
 pub renewed : (sources : List Source) (at : ℕ) (new : Source) (now : List Source) (leaders : List (Option ℕ)) (leader : Option ℕ) (group : ℕ) → now ≡ set sources at new → group ≡ at / 4 → group < length leaders → AreLeaders sources leaders → IsLeastOf now (4 * group) (min (4 * group + 4) (length now)) leader → AreLeaders now (set leaders group leader)

@@ -1,4 +1,3 @@
-pub mod HeadLemmas
 pub mod LawLemmas
 pub mod LeaderLemmas
 pub mod MergeLemmas

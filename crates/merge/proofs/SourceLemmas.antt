@@ -33,17 +33,3 @@ pub read_ended : (bytes piece : List ℕ) (place most : ℕ) → piece ≡ take 
 read_ended bytes piece place most read some none =
     let len = ap length read ∙ length-take most (drop place bytes) in
     drop_all place bytes (omega (arith, len, length-drop place bytes))
-
--- ---- the last line
-
-pub if_found : (found : Bool) (P : Type 0) → found ≡ true → OnTrue found P → P
-if_found true P is holds = holds
-if_found false P is holds = absurd (false≢true is)
-
-unended_some : (bytes : List ℕ) → bytes ≢ [] → unended bytes ≡ bytes ∷ []
-unended_some [] some = absurd (some refl)
-unended_some (b ∷ bs) some = refl
-
-pub last_pair : (bytes line : List ℕ) (pair : Pair) → HasNoLf bytes → line ≡ bytes → bytes ≢ [] → pair ≡ pair_of line → pairs_in bytes ≡ pair ∷ []
-last_pair bytes line pair unbroken is some is_pair =
-    ap (map pair_of) (records_of-unbroken bytes unbroken ∙ unended_some bytes some) ∙ ap (λ l. pair_of l ∷ []) (sym is) ∙ ap (λ p. p ∷ []) (sym is_pair)

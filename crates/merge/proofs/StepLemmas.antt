@@ -15,7 +15,7 @@ use Rattle.merge.specs.declared.source.Source.{Source}
 use Rattle.merge.specs.Sources.{all_of, left_of, lefts, untaken, IsLeast, IsSource}
 use Rattle.merge.proofs.MergeLemmas.{IsBeforeAll, in_order_rest, length_taken, merged_step, none_left}
 
-left_running : (state : State) (source : Source) → source.ended ≡ false → left_of state source ≡ source.head ∷ pairs_in (untaken state source)
+left_running : (state : State) (source : Source) → source.ended ≡ false → left_of state source ≡ source.lines.head ∷ pairs_in (untaken state source)
 left_running state source running = cond-false _ _ _ running
 
 left_ended : (state : State) (source : Source) → source.ended ≡ true → left_of state source ≡ []
@@ -23,16 +23,16 @@ left_ended state source ended = cond-true _ _ _ ended
 
 -- what is left depends on the run's bytes alone
 untaken_same : (s t : State) (source : Source) → s source.path ≡ t source.path → untaken s source ≡ untaken t source
-untaken_same s t source same = ap (λ (h : Held). source.held ++ drop source.place (bytes_of h.now)) same
+untaken_same s t source same = ap (λ (h : Held). source.lines.rest ++ drop source.place (bytes_of h.now)) same
 
 left_same : (s t : State) (source : Source) → s source.path ≡ t source.path → left_of s source ≡ left_of t source
 left_same s t source same =
-    ap (λ (bytes : List ℕ). if source.ended then [] else source.head ∷ pairs_in bytes) (untaken_same s t source same)
+    ap (λ (bytes : List ℕ). if source.ended then [] else source.lines.head ∷ pairs_in bytes) (untaken_same s t source same)
 
 -- the head is the first pair that is left
-first_left : (state : State) (source : Source) (p : Pair) (ps : List Pair) → left_of state source ≡ p ∷ ps → (source.ended ≡ false) × (source.head ≡ p)
+first_left : (state : State) (source : Source) (p : Pair) (ps : List Pair) → left_of state source ≡ p ∷ ps → (source.ended ≡ false) × (source.lines.head ≡ p)
 first_left state source p ps is =
-    ⊎_elim (λ (ended : source.ended ≡ true). let clash : [] ≡ p ∷ ps = sym (left_ended state source ended) ∙ is in absurd cc) (λ (running : source.ended ≡ false). let same : source.head ∷ pairs_in (untaken state source) ≡ p ∷ ps = sym (left_running state source running) ∙ is in (running, cc)) (cases_Bool source.ended)
+    ⊎_elim (λ (ended : source.ended ≡ true). let clash : [] ≡ p ∷ ps = sym (left_ended state source ended) ∙ is in absurd cc) (λ (running : source.ended ≡ false). let same : source.lines.head ∷ pairs_in (untaken state source) ≡ p ∷ ps = sym (left_running state source running) ∙ is in (running, cc)) (cases_Bool source.ended)
 
 all_in_order : (out : Names) (state : State) (sources : List Source) → All (IsSource out state) sources → All IsInOrder (lefts state sources)
 all_in_order out state sources all =
@@ -71,7 +71,7 @@ module _ (out : Names) (entry state : State) (sources : List Source) (at : ℕ) 
   left =
       sym (left_same state entry new (stands new.path (ap (same_path out) path ∙ own.other))) ∙ left_now ∙ ap pairs_in (untaken_same state entry source (stands source.path own.other))
 
-  here : get_or (lefts entry sources) at [] ≡ source.head ∷ pairs_in (untaken entry source)
+  here : get_or (lefts entry sources) at [] ≡ source.lines.head ∷ pairs_in (untaken entry source)
   here =
       get_or-map (left_of entry) sources at source [] least.inside ∙ ap (left_of entry) (sym is) ∙ left_running entry source running
 
@@ -82,25 +82,25 @@ module _ (out : Names) (entry state : State) (sources : List Source) (at : ℕ) 
   after =
       map-set (left_of entry) sources at new ∙ ap (λ (l : List Pair). set (lefts entry sources) at l) left
 
-  first : IsBeforeAll source.head (lefts entry sources)
+  first : IsBeforeAll source.lines.head (lefts entry sources)
   first k p ps low begins =
       let long = length-map sources (left_of entry) in
       let low' : k < length sources = omega arith in
       let found = first_left entry (get_or sources k source) p ps (sym (get_or-map (left_of entry) sources k source [] low') ∙ begins) in
-      ap (λ (q : Pair). pair_before source.head q) (sym found.1) ∙ ap (λ (s : Source). pair_before s.head (get_or sources k source).head) is ∙ least.first k source (omega arith) low' found.0
+      ap (λ (q : Pair). pair_before source.lines.head q) (sym found.1) ∙ ap (λ (s : Source). pair_before s.lines.head (get_or sources k source).lines.head) is ∙ least.first k source (omega arith) low' found.0
 
   pub sources_more : All (IsSource out entry) (set sources at new)
   sources_more =
-      All-set (IsSource out entry) sources at new (record { there = subst (λ (q : Names). HasFile entry q) (sym path) own.there; other = ap (same_path out) path ∙ own.other; in_order = subst (λ (l : List Pair). IsInOrder l) (sym left) (in_order_rest source.head (pairs_in (untaken entry source)) (subst (λ (l : List Pair). IsInOrder l) (left_running entry source running) own.in_order)) }) all
+      All-set (IsSource out entry) sources at new (record { there = subst (λ (q : Names). HasFile entry q) (sym path) own.there; other = ap (same_path out) path ∙ own.other; in_order = subst (λ (l : List Pair). IsInOrder l) (sym left) (in_order_rest source.lines.head (pairs_in (untaken entry source)) (subst (λ (l : List Pair). IsInOrder l) (left_running entry source running) own.in_order)) }) all
 
   pub counted_more : (count whole : ℕ) → count + length (all_of (lefts entry sources)) ≡ whole → count + 1 + length (all_of (lefts entry (set sources at new))) ≡ whole
   counted_more count whole so_far =
-      let taken = length_taken (lefts entry sources) at source.head (pairs_in (untaken entry source)) inside here in
+      let taken = length_taken (lefts entry sources) at source.lines.head (pairs_in (untaken entry source)) inside here in
       let same = ap (λ (ls : List (List Pair)). length (all_of ls)) after in
       omega (arith, taken, same, so_far)
 
-  pub sent_more : (before sent whole : List ℕ) → before ++ pairs_text (sorted_pairs (all_of (lefts entry sources))) ≡ whole → sent ≡ before ++ pair_line source.head.0 source.head.1 → sent ++ pairs_text (sorted_pairs (all_of (lefts entry (set sources at new)))) ≡ whole
+  pub sent_more : (before sent whole : List ℕ) → before ++ pairs_text (sorted_pairs (all_of (lefts entry sources))) ≡ whole → sent ≡ before ++ pair_line source.lines.head.0 source.lines.head.1 → sent ++ pairs_text (sorted_pairs (all_of (lefts entry (set sources at new)))) ≡ whole
   sent_more before sent whole so_far now =
-      let line : List ℕ = pair_line source.head.0 source.head.1 in
+      let line : List ℕ = pair_line source.lines.head.0 source.lines.head.1 in
       let later : List Pair = sorted_pairs (all_of (set (lefts entry sources) at (pairs_in (untaken entry source)))) in
-      ap (λ (l : List ℕ). l ++ pairs_text (sorted_pairs (all_of (lefts entry (set sources at new))))) now ∙ ap (λ (ls : List (List Pair)). (before ++ line) ++ pairs_text (sorted_pairs (all_of ls))) after ∙ append_assoc before line (pairs_text later) ∙ ap (λ (ps : List Pair). before ++ pairs_text ps) (sym (merged_step (lefts entry sources) at source.head (pairs_in (untaken entry source)) inside here (all_in_order out entry sources all) first)) ∙ so_far
+      ap (λ (l : List ℕ). l ++ pairs_text (sorted_pairs (all_of (lefts entry (set sources at new))))) now ∙ ap (λ (ls : List (List Pair)). (before ++ line) ++ pairs_text (sorted_pairs (all_of ls))) after ∙ append_assoc before line (pairs_text later) ∙ ap (λ (ps : List Pair). before ++ pairs_text ps) (sym (merged_step (lefts entry sources) at source.lines.head (pairs_in (untaken entry source)) inside here (all_in_order out entry sources all) first)) ∙ so_far

@@ -1,5 +1,4 @@
 pub mod Faults
-pub mod Heads
 pub mod Laws
 pub mod Runs
 pub mod Sources

@@ -9,12 +9,12 @@ use Rattle.merge.specs.declared.source.Source.{Source}
 
 -- what no line was taken from yet
 abbrev pub untaken : State → Source → List ℕ
-untaken state source = source.held ++ drop source.place (bytes_at state source.path)
+untaken state source = source.lines.rest ++ drop source.place (bytes_at state source.path)
 
 -- the pairs that are not given yet
 abbrev pub left_of : State → Source → List Pair
 left_of state source =
-    if source.ended then [] else source.head ∷ pairs_in (untaken state source)
+    if source.ended then [] else source.lines.head ∷ pairs_in (untaken state source)
 
 abbrev pub lefts : State → List Source → List (List Pair)
 lefts state sources = map (left_of state) sources
@@ -29,7 +29,7 @@ pub record IsLeast (sources : List Source) (low high at : ℕ) : Type 0 where
   pub below : at < high
   pub inside : at < length sources
   pub running : (none : Source) → (slice_index_or sources at none).ended ≡ false
-  pub first : (other : ℕ) (none : Source) → low ≤ other → other < high → (slice_index_or sources other none).ended ≡ false → pair_before (slice_index_or sources at none).head (slice_index_or sources other none).head ≡ true
+  pub first : (other : ℕ) (none : Source) → low ≤ other → other < high → (slice_index_or sources other none).ended ≡ false → pair_before (slice_index_or sources at none).lines.head (slice_index_or sources other none).lines.head ≡ true
 
 -- the source with the least pair among those from one place up to another, where one of them has a pair
 abbrev pub IsLeastOf : List Source → ℕ → ℕ → Option ℕ → Type 0

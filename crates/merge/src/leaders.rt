@@ -30,7 +30,7 @@ fn lesser_of(sources: &[Source], one: Option<usize>, other: Option<usize>) -> Op
     let Some(second) = other else {
         return one;
     };
-    if sources[first].head.comes_before(&sources[second].head) {
+    if sources[first].lines.comes_before(&sources[second].lines) {
         one
     } else {
         other

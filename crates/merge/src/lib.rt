@@ -2,7 +2,6 @@
 #![tactic(auto)]
 
 mod fault;
-mod head;
 pub mod laws;
 mod leaders;
 mod merging;

@@ -18,7 +18,7 @@ use crate::leaders::{first_of, leaders_of, renew};
 use crate::source::Source;
 use dir_disk::Dir;
 use peg_base::Path;
-use peg_text::{NoMemory, write_pair};
+use peg_text::NoMemory;
 use pieces::send_piece;
 use std::alloc::Global;
 
@@ -42,7 +42,7 @@ fn give<D: Dir>(
     ensures can { D.tells → OnOk result (CanAppend (files (D.told dir.new)) out.now) }
     ensures sent { D.tells
         → OnOk result (gathered out.now (files (D.told dir.new)) piece.new.items
-        ≡ gathered out.now (files (D.told dir.old)) piece.old.items ++ pair_line source.old.head.0 source.old.head.1) }
+        ≡ gathered out.now (files (D.told dir.old)) piece.old.items ++ pair_line source.old.lines.head.0 source.old.lines.head.1) }
     ensures others { D.tells → OnOk result (StandsBut out.now (files (D.told dir.old)) (files (D.told dir.new))) }
     ensures stands { D.tells
         → Through (Both (StandsOutside out.now (files (D.told dir.old)))) (D.told dir.old) (D.told dir.new) }
@@ -50,7 +50,7 @@ fn give<D: Dir>(
     ensures beside { D.beside dir.new ≡ D.beside dir.old }
     ensures cause { HasCause MergeFault.Disk (D.faults dir.old) (D.faults dir.new) result }
 {
-    write_pair(alloc, piece, source.head.key(), source.head.value())?;
+    source.lines.write(alloc, piece)?;
     send_piece(alloc, dir, out, piece)?;
     source.advance(alloc, dir)
 }

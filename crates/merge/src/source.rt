@@ -10,10 +10,9 @@ ghost use Rattle.dir_disk.specs.State.{bytes_at};
 ghost use Rattle.merge.specs.Sources.{left_of, untaken};
 
 use crate::fault::MergeFault;
-use crate::head::Head;
 use dir_disk::Dir;
+use pairs::PairBuf;
 use peg_base::Path;
-use peg_text::LineBuf;
 use std::alloc::Global;
 
 /// How many bytes are read at a time.
@@ -28,10 +27,8 @@ pub(crate) struct Source {
     pub path: Path,
     /// Where the next piece begins.
     pub place: u64,
-    /// What was read and not taken yet.
-    pub held: LineBuf,
-    /// The next pair, unless the run has ended.
-    pub head: Head,
+    /// The next pair, unless the run has ended, and what was read behind it.
+    pub lines: PairBuf,
     /// Whether all pairs are given.
     pub ended: bool,
 }
@@ -42,13 +39,13 @@ fn read_on<D: Dir>(
     dir: &mut D,
     path: &Path,
     place: &mut u64,
-    held: &mut LineBuf,
+    held: &mut PairBuf,
 ) -> Result<bool, MergeFault>
     requires lent { IsNoOutput (D.lent dir.old) path.now }
     requires there { D.tells → HasFile (files (D.told dir.old)) path.now }
     ensures held { let bytes = bytes_at (files (D.told dir.old)) path.now in D.tells
-        → OnOk result (held.new ++ drop place.new bytes ≡ held.old ++ drop place.old bytes) }
-    ensures none { IfOk result (λ more. OnFalse more (held.new ≡ held.old)) }
+        → OnOk result (held.new.rest ++ drop place.new bytes ≡ held.old.rest ++ drop place.old bytes) }
+    ensures none { IfOk result (λ more. OnFalse more (held.new.rest ≡ held.old.rest)) }
     ensures ended { D.tells
         → IfOk result (λ more. OnFalse more (drop place.new (bytes_at (files (D.told dir.old)) path.now) ≡ [])) }
     ensures onward { IfOk result (λ more. OnTrue more ((place.old < place.new) × (place.old < 2 ^ 50))) }
@@ -87,8 +84,7 @@ impl Source {
         let mut source = Source {
             path: path.copy(alloc)?,
             place: 0,
-            held: LineBuf::new(alloc),
-            head: Head::new(alloc),
+            lines: PairBuf::new(alloc),
             ended: false,
         };
         source.advance(alloc, dir)?;
@@ -112,7 +108,7 @@ impl Source {
         if self.whole_line(alloc, dir)? {
             return Ok(());
         }
-        self.ended = !self.head.last(alloc, &mut self.held)?;
+        self.ended = !self.lines.last();
         Ok(())
     }
 
@@ -124,20 +120,20 @@ impl Source {
         ensures path { self.new.path ≡ self.old.path }
         ensures running { self.new.ended ≡ self.old.ended }
         ensures found { let entry = files (D.told dir.old) in D.tells
-            → IfOk result (λ found. OnTrue found (pairs_in (untaken entry self.old) ≡ self.new.head ∷ pairs_in (untaken entry self.new))) }
+            → IfOk result (λ found. OnTrue found (pairs_in (untaken entry self.old) ≡ self.new.lines.head ∷ pairs_in (untaken entry self.new))) }
         ensures held { let entry = files (D.told dir.old) in D.tells
-            → IfOk result (λ found. OnFalse found (self.new.held ≡ untaken entry self.old)) }
+            → IfOk result (λ found. OnFalse found (self.new.lines.rest ≡ untaken entry self.old)) }
         ensures ended { D.tells
             → IfOk result (λ found. OnFalse found (drop self.new.place (bytes_at (files (D.told dir.old)) self.new.path) ≡ [])) }
-        ensures unbroken { IfOk result (λ found. OnFalse found (HasNoLf self.new.held)) }
+        ensures unbroken { IfOk result (λ found. OnFalse found (HasNoLf self.new.lines.rest)) }
         ensures stands { D.tells
             → Through (Both (λ state. state ≡ files (D.told dir.old))) (D.told dir.old) (D.told dir.new) }
         ensures lent { D.lent dir.new ≡ D.lent dir.old }
         ensures beside { D.beside dir.new ≡ D.beside dir.old }
         ensures cause { HasCause MergeFault.Disk (D.faults dir.old) (D.faults dir.new) result }
     {
-        while !self.head.next(alloc, &mut self.held)? {
-            if !read_on(alloc, dir, &self.path, &mut self.place, &mut self.held)? {
+        while !self.lines.next() {
+            if !read_on(alloc, dir, &self.path, &mut self.place, &mut self.lines)? {
                 return Ok(false);
             }
         }

@@ -1,4 +1,5 @@
 pub mod Sorting
 pub mod Pairs
 pub mod Prefixes
+pub mod Taking
 pub mod Laws

@@ -3,6 +3,8 @@
 #![tactic(auto)]
 
 pub mod laws;
+mod pair_buf;
 mod prefix;
 
+pub use pair_buf::PairBuf;
 pub use prefix::measured_key;

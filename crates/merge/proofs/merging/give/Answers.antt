@@ -21,10 +21,9 @@ returns-clause-sent g c =
     λ tells.
     let out = c.args.out.now in
     let entry = files (g.D.Dir.told c.args.dir.now) in
-    let head = c.args.source.now.head in
+    let head = c.args.source.now.lines.head in
     let same = same_state (g.D.Dir.told c.send_piece.new.dir) (g.D.Dir.told c.advance.new.dir) (c.advance.ensures.stands tells) in
-    let line : pair_line c.key.result.now c.value.result.now ≡ pair_line head.0 head.1 = ap (λ key. pair_line key c.value.result.now) c.key.ensures ∙ ap (λ value. pair_line head.0 value) c.value.ensures in
-    on_ok c.advance.result (ap (λ (s : State). gathered out s c.send_piece.new.piece.items) same ∙ c.in_ok-send_piece.ensures.sent tells ∙ ap (gathered out entry) (c.in_ok-write_pair.ensures.ok ∙ ap (λ l. c.args.piece.now.items ++ l) line) ∙ gathered_more out entry c.args.piece.now.items (pair_line head.0 head.1))
+    on_ok c.advance.result (ap (λ (s : State). gathered out s c.send_piece.new.piece.items) same ∙ c.in_ok-send_piece.ensures.sent tells ∙ ap (gathered out entry) c.in_ok-write.ensures ∙ gathered_more out entry c.args.piece.now.items (pair_line head.0 head.1))
 
 pub returns-clause-others : goal.returns-clause-others
 returns-clause-others g c =

@@ -17,6 +17,6 @@ returns-clause-held g c =
     λ tells.
     let bytes = bytes_at (files (g.D.Dir.told c.args.dir.now)) c.args.path.now in
     let piece = c.in_ok-piece.piece.items in
-    let fed = c.in_ok-feed.ensures.ok ∙ ap (λ l. c.args.held.now ++ l) c.deref.ensures.value in
+    let fed = c.in_ok-feed.ensures ∙ ap (λ l. c.args.held.now.rest ++ l) c.deref.ensures.value in
     let long : c.len.result ≡ length piece = omega (arith, c.in_ok-piece.piece.ok, c.len.ensures) in
-    read_held bytes c.args.held.now piece c.feed.new.self c.args.place.now 65536 c.len.result (c.in_ok-piece.ensures.bytes tells) fed long
+    read_held bytes c.args.held.now.rest piece c.feed.new.self.rest c.args.place.now 65536 c.len.result (c.in_ok-piece.ensures.bytes tells) fed long

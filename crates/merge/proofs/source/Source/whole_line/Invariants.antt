@@ -10,7 +10,7 @@ invariant-loop-alloc g l =
     record {
       path : l.self.path ≡ l.fn.self.path;
       running : l.self.ended ≡ l.fn.self.ended;
-      held : g.D.Dir.tells → l.self.held ++ drop l.self.place (bytes_at entry l.fn.self.path) ≡ untaken entry l.fn.self;
+      held : g.D.Dir.tells → l.self.lines.rest ++ drop l.self.place (bytes_at entry l.fn.self.path) ≡ untaken entry l.fn.self;
       stands : g.D.Dir.tells → Through (Both (λ state. state ≡ files (g.D.Dir.told l.fn.dir))) (g.D.Dir.told l.fn.dir) (g.D.Dir.told l.dir);
       lent : g.D.Dir.lent l.dir ≡ g.D.Dir.lent l.fn.dir;
       beside : g.D.Dir.beside l.dir ≡ g.D.Dir.beside l.fn.dir;

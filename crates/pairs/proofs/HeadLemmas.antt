@@ -7,7 +7,7 @@ use Rattle.peg_text.specs.Pairs.{key_of}
 use Rattle.pairs.specs.Pairs.{Pair, pair_of, pair_cmp, pair_before}
 use Rattle.pairs.specs.Prefixes.{AreBytes, prefix_of}
 use Rattle.pairs.proofs.PrefixLemmas.{decided, key_length}
-use Rattle.merge.specs.Heads.{HasKey, pair_at}
+use Rattle.pairs.specs.Taking.{HasKey, pair_at}
 
 module _ (one other : List ℕ) (key also a b : ℕ) (p q : Pair) (order : Ordering) (has : HasKey one key a) (too : HasKey other also b) (is_p : pair_at one key ≡ p) (is_q : pair_at other also ≡ q) (is : order ≡ nat_cmp a b) where
   answer : (order ≡ Equal → ⊥) → order ≡ pair_cmp p q

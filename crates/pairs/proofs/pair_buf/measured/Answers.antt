@@ -1,8 +1,8 @@
 use Rattle.std.proofs.Common.{◌<◌, rules}
 use Rattle.std.proofs.lemmas.List.Elements.{All-from_get_or}
 use Rattle.pairs.specs.Prefixes.{AreBytes}
-use Rattle.merge.proofs.HeadLemmas.{cut_at_key, has_key}
-use Rattle.merge.proofs.head.measured.Goals as goal
+use Rattle.pairs.proofs.HeadLemmas.{cut_at_key, has_key}
+use Rattle.pairs.proofs.pair_buf.measured.Goals as goal
 
 pub returns-clause-pair : goal.returns-clause-pair
 returns-clause-pair c = cut_at_key c.args.line.now c.measured_key.result.0 c.measured_key.ensures.length
