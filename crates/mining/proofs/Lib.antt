@@ -10,3 +10,6 @@ pub mod AckLemmas
 pub mod LastLemmas
 pub mod CountLemmas
 pub mod Wholes
+pub mod JobsAdded
+pub mod JobsAfter
+pub mod Failures

@@ -7,3 +7,5 @@ pub mod Stops
 pub mod Making
 pub mod Acked
 pub mod Iterations
+pub mod Jobs
+pub mod Failures

@@ -19,6 +19,7 @@ pub record IsJobOf (conf : Settings) (last : ℕ) (place : Place) (spec : JobSpe
   pub reducers : spec.reducers ≡ conf.reducers
   pub split : spec.split ≡ conf.split
   pub slots : spec.slots ≡ conf.slots
+  pub spill : spec.spill ≡ conf.spill
 
 -- the parts that the folder's job makes of what its inputs have now
 abbrev pub parts_from : (List (List ℕ) → List ℕ → List ℕ) → Settings → ℕ → Place → State → List (List ℕ)

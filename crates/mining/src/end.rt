@@ -17,6 +17,9 @@ ghost use Rattle.mining.specs.Making.{IsAsAt};
 ghost use Rattle.mining.specs.Acked.{Acks};
 ghost use Rattle.mining.specs.Iterations.{IsAt, IsDone, console_after, done_line_at};
 ghost use Rattle.mining.specs.Stops.{IsOfJobs, IsOfMining};
+ghost use Rattle.mining.specs.Jobs.{FinishesWithin, GainsWithin, rank_after, rank_behind, rank_of_end};
+ghost use Rattle.mining.specs.Failures.{IsOfNoTask, TellsOfAnswer};
+ghost use Rattle.job.specs.Failing.{gained};
 
 use crate::place::Place;
 use crate::run::{Reached, is_end, make_result, run_iterations};
@@ -33,6 +36,8 @@ fn read_total<S: Site>(alloc: Global, site: &mut S, conf: &Conf) -> Result<u128,
     requires mines { is_mining conf.now.command ≡ true }
     requires none_running { (S.seen site.old).running ≡ [] }
     ensures seen { S.seen site.new ≡ S.seen site.old }
+    ensures given { S.tells → S.given site.new ≡ S.given site.old }
+    ensures no_task { IfErr result IsOfNoTask }
     ensures stands { S.tells
         → Through (Both (IsAsAt (files (S.told site.old)))) (S.told site.old) (S.told site.new) }
     ensures total { S.tells → IfOk result (λ total. total_in conf.now.command
@@ -56,6 +61,11 @@ fn result_total<S: Site>(alloc: Global, site: &mut S, conf: &Conf, last: u32) ->
     requires none_running { (S.seen site.old).running ≡ [] }
     requires firm { S.tells → AllFirm (files (S.told site.old)) }
     ensures none_running { (S.seen site.new).running ≡ [] }
+    ensures answers { TellsOfAnswer (gained (S.seen site.old).log (S.seen site.new).log) result }
+    ensures log { GainsWithin S.tells S.gives conf.now rank_of_end rank_behind
+        (S.seen site.old) (S.seen site.new) (S.given site.old) (S.given site.new) (S.told site.new) }
+    ensures logged { OnOk result (FinishesWithin S.tells S.gives conf.now rank_of_end rank_behind
+        (S.seen site.old) (S.seen site.new) (S.given site.old) (S.given site.new) (S.told site.new)) }
     ensures sure { S.tells → OnOk result (IsSure Place.Results (files (S.told site.new))) }
     ensures fresh { S.tells → OnOk result (IsFresh (S.told site.new)) }
     ensures stays { S.tells
@@ -86,6 +96,11 @@ pub fn finish<S: Site>(alloc: Global, site: &mut S, conf: &Conf, last: Reached) 
     requires none_running { (S.seen site.old).running ≡ [] }
     requires firm { S.tells → AllFirm (files (S.told site.old)) }
     ensures none_running { (S.seen site.new).running ≡ [] }
+    ensures answers { TellsOfAnswer (gained (S.seen site.old).log (S.seen site.new).log) result }
+    ensures log { GainsWithin S.tells S.gives conf.now rank_of_end rank_behind
+        (S.seen site.old) (S.seen site.new) (S.given site.old) (S.given site.new) (S.told site.new) }
+    ensures logged { OnOk result (FinishesWithin S.tells S.gives conf.now rank_of_end rank_behind
+        (S.seen site.old) (S.seen site.new) (S.given site.old) (S.given site.new) (S.told site.new)) }
     ensures sure { S.tells → OnOk result (IsSure Place.Results (files (S.told site.new))) }
     ensures stays { S.tells
         → Through (Both (KeepsWhole (files (S.told site.old)))) (S.told site.old) (S.told site.new) }
@@ -115,6 +130,7 @@ pub fn finish<S: Site>(alloc: Global, site: &mut S, conf: &Conf, last: Reached) 
 /// An iteration that is the last one that there may be, but still counts a change.
 fn not_ended(alloc: Global, last: Reached) -> Stop
     ensures no_disk { result ≢ Stop.Disk }
+    ensures no_task { IsOfNoTask result }
     ensures err { IsOfJobs result }
 {
     match Place::Vector(last.k).path(alloc) {
@@ -133,6 +149,11 @@ pub fn mine_on<S: Site>(alloc: Global, site: &mut S, conf: &Conf, from: Reached)
     requires sure { S.tells → IsSure (Place.Vector from.k) (files (S.told site.old)) }
     // No child runs.
     ensures none_running { (S.seen site.new).running ≡ [] }
+    ensures answers { TellsOfAnswer (gained (S.seen site.old).log (S.seen site.new).log) result }
+    ensures log { GainsWithin S.tells S.gives conf.now (rank_after from.k) rank_behind
+        (S.seen site.old) (S.seen site.new) (S.given site.old) (S.given site.new) (S.told site.new) }
+    ensures logged { OnOk result (FinishesWithin S.tells S.gives conf.now (rank_after from.k) rank_behind
+        (S.seen site.old) (S.seen site.new) (S.given site.old) (S.given site.new) (S.told site.new)) }
     // Whole folders stay as they are.
     ensures stays { S.tells
         → Through (Both (KeepsWhole (files (S.told site.old)))) (S.told site.old) (S.told site.new) }

@@ -16,6 +16,9 @@ ghost use Rattle.mining.specs.Making.{IsAsAt};
 ghost use Rattle.mining.specs.Acked.{Acks};
 ghost use Rattle.mining.specs.Iterations.{IsNext, line_at};
 ghost use Rattle.mining.specs.Stops.{IsOfJobs, IsOfMining};
+ghost use Rattle.mining.specs.Jobs.{FinishesWithin, GainsWithin, rank_after, rank_from};
+ghost use Rattle.mining.specs.Failures.{IsOfNoTask, TellsOfAnswer};
+ghost use Rattle.job.specs.Failing.{gained};
 
 use crate::make::ensure_folder;
 use crate::place::Place;
@@ -36,6 +39,11 @@ fn make_vector<S: Site>(alloc: Global, site: &mut S, conf: &Conf, k: u32) -> Res
     requires none_running { (S.seen site.old).running ≡ [] }
     requires firm { S.tells → AllFirm (files (S.told site.old)) }
     ensures none_running { (S.seen site.new).running ≡ [] }
+    ensures answers { TellsOfAnswer (gained (S.seen site.old).log (S.seen site.new).log) result }
+    ensures log { GainsWithin S.tells S.gives conf.now (rank_from k) (rank_after k)
+        (S.seen site.old) (S.seen site.new) (S.given site.old) (S.given site.new) (S.told site.new) }
+    ensures logged { OnOk result (FinishesWithin S.tells S.gives conf.now (rank_from k) (rank_after k)
+        (S.seen site.old) (S.seen site.new) (S.given site.old) (S.given site.new) (S.told site.new)) }
     ensures firm { S.tells → OnOk result (AllFirm (files (S.told site.new))) }
     ensures sure { S.tells → OnOk result (IsSure (Place.Vector k) (files (S.told site.new))) }
     ensures stays { S.tells
@@ -63,6 +71,7 @@ fn check_bound(
 ) -> Result<(), Stop>
     requires short { length folder.now < 8 }
     ensures no_disk { ¬ IsErrOf result Stop.Disk }
+    ensures no_task { IfErr result IsOfNoTask }
     ensures err { IfErr result IsOfJobs }
 {
     match first {
@@ -82,6 +91,8 @@ pub fn count_changed<S: Site>(alloc: Global, site: &mut S, conf: &Conf, k: u32) 
     requires limits { IsWithinLimits conf.now }
     requires none_running { (S.seen site.old).running ≡ [] }
     ensures seen { S.seen site.new ≡ S.seen site.old }
+    ensures given { S.tells → S.given site.new ≡ S.given site.old }
+    ensures no_task { IfErr result IsOfNoTask }
     ensures stands { S.tells
         → Through (Both (IsAsAt (files (S.told site.old)))) (S.told site.old) (S.told site.new) }
     ensures count { S.tells → IfOk result (λ changed. changes_in
@@ -108,6 +119,11 @@ fn new_vector<S: Site>(alloc: Global, site: &mut S, conf: &Conf, k: u32) -> Resu
     requires none_running { (S.seen site.old).running ≡ [] }
     requires firm { S.tells → AllFirm (files (S.told site.old)) }
     ensures none_running { (S.seen site.new).running ≡ [] }
+    ensures answers { TellsOfAnswer (gained (S.seen site.old).log (S.seen site.new).log) result }
+    ensures log { GainsWithin S.tells S.gives conf.now (rank_from k) (rank_after k)
+        (S.seen site.old) (S.seen site.new) (S.given site.old) (S.given site.new) (S.told site.new) }
+    ensures logged { OnOk result (FinishesWithin S.tells S.gives conf.now (rank_from k) (rank_after k)
+        (S.seen site.old) (S.seen site.new) (S.given site.old) (S.given site.new) (S.told site.new)) }
     ensures firm { S.tells → OnOk result (AllFirm (files (S.told site.new))) }
     ensures sure { S.tells → OnOk result (IsSure (Place.Vector k) (files (S.told site.new))) }
     ensures fresh { S.tells → OnOk result (IsFresh (S.told site.new)) }
@@ -136,6 +152,9 @@ pub fn drop_messages<S: Site>(alloc: Global, site: &mut S, k: u32) -> Result<(),
     requires none_running { (S.seen site.old).running ≡ [] }
     requires firm { S.tells → AllFirm (files (S.told site.old)) }
     ensures none_running { (S.seen site.new).running ≡ [] }
+    ensures seen { S.seen site.new ≡ S.seen site.old }
+    ensures given { S.tells → S.given site.new ≡ S.given site.old }
+    ensures no_task { IfErr result IsOfNoTask }
     ensures firm { S.tells → OnOk result (AllFirm (files (S.told site.new))) }
     ensures stays { S.tells
         → Through (Both (KeepsWhole (files (S.told site.old)))) (S.told site.old) (S.told site.new) }
@@ -162,6 +181,9 @@ fn announce<S: Site>(alloc: Global, site: &mut S, k: u32, changed: u64) -> Resul
     requires sure { S.tells → IsSure (Place.Vector k) (files (S.told site.old)) }
     requires fresh { S.tells → IsFresh (S.told site.old) }
     ensures none_running { (S.seen site.new).running ≡ [] }
+    ensures seen { S.seen site.new ≡ S.seen site.old }
+    ensures given { S.tells → S.given site.new ≡ S.given site.old }
+    ensures no_task { IfErr result IsOfNoTask }
     ensures firm { S.tells → OnOk result (AllFirm (files (S.told site.new))) }
     ensures stays { S.tells
         → Through (Both (KeepsWhole (files (S.told site.old)))) (S.told site.old) (S.told site.new) }
@@ -195,6 +217,11 @@ pub fn next_iteration<S: Site>(
     requires firm { S.tells → AllFirm (files (S.told site.old)) }
     // No child runs.
     ensures none_running { (S.seen site.new).running ≡ [] }
+    ensures answers { TellsOfAnswer (gained (S.seen site.old).log (S.seen site.new).log) result }
+    ensures log { GainsWithin S.tells S.gives conf.now (rank_from k) (rank_after k)
+        (S.seen site.old) (S.seen site.new) (S.given site.old) (S.given site.new) (S.told site.new) }
+    ensures logged { OnOk result (FinishesWithin S.tells S.gives conf.now (rank_from k) (rank_after k)
+        (S.seen site.old) (S.seen site.new) (S.given site.old) (S.given site.new) (S.told site.new)) }
     ensures firm { S.tells → OnOk result (AllFirm (files (S.told site.new))) }
     ensures sure { S.tells → OnOk result (IsSure (Place.Vector k) (files (S.told site.new))) }
     // Whole folders stay as they are.

@@ -1,4 +1,4 @@
-ghost use Rattle.std.specs.Prelude.{◌≡◌, ◌<◌, ◌^◌, [], List, false, OnOk, IsErrOf, IfErr};
+ghost use Rattle.std.specs.Prelude.{◌≡◌, ◌<◌, ◌^◌, [], List, false, OnOk, IsErrOf, IfErr, true, ◌+◌};
 ghost use Rattle.dir_disk.specs.Causes.{HasCause};
 ghost use Rattle.dir_disk.specs.Moments.{Both, EachImage, Through, files};
 ghost use Rattle.dir_disk.specs.State.{StandsOutside};
@@ -6,12 +6,15 @@ ghost use Rattle.graph.specs.declared.edges.Edge.{Edge};
 ghost use Rattle.committer.specs.Folders.{IsUnmarked};
 ghost use Rattle.conf.specs.Limits.{IsWithinLimits};
 ghost use Rattle.job.specs.Whole.{IsFinished, Makes};
-ghost use Rattle.mining.specs.Places.{folder_of, IsInTable, is_sealed};
+ghost use Rattle.mining.specs.Places.{folder_of, IsInTable, is_sealed, is_made, rank_of};
 ghost use Rattle.mining.specs.Flow.{mining_of};
 ghost use Rattle.mining.specs.Kept.{AllKept, Kept};
 ghost use Rattle.mining.specs.Between.{AllFirm, CanRead, IsDue, IsSure, KeepsWhole};
 ghost use Rattle.mining.specs.Making.{parts_from};
 ghost use Rattle.mining.specs.Stops.{IsOfJobs};
+ghost use Rattle.mining.specs.Jobs.{FinishesWithin, GainsWithin};
+ghost use Rattle.mining.specs.Failures.{TellsOfAnswer};
+ghost use Rattle.job.specs.Failing.{gained};
 
 use crate::check::check_parts;
 use crate::place::Place;
@@ -38,6 +41,13 @@ pub fn make_folder<S: Site>(
     requires none_running { (S.seen site.old).running ≡ [] }
     requires unmarked { S.tells → IsUnmarked (folder_of place) (files (S.told site.old)) }
     ensures none_running { (S.seen site.new).running ≡ [] }
+    ensures answers { TellsOfAnswer (gained (S.seen site.old).log (S.seen site.new).log) result }
+    ensures log { is_made conf.now.form place ≡ true
+        → GainsWithin S.tells S.gives conf.now (rank_of place) (rank_of place + 1)
+        (S.seen site.old) (S.seen site.new) (S.given site.old) (S.given site.new) (S.told site.new) }
+    ensures logged { is_made conf.now.form place ≡ true
+        → OnOk result (FinishesWithin S.tells S.gives conf.now (rank_of place) (rank_of place + 1)
+        (S.seen site.old) (S.seen site.new) (S.given site.old) (S.given site.new) (S.told site.new)) }
     ensures steps { let parts = parts_from S.gives conf.now last place (files (S.told site.old)) in S.tells
         → Through (Makes (folder_of place) parts (files (S.told site.old))) (S.told site.old) (S.told site.new) }
     ensures finished { let parts = parts_from S.gives conf.now last place (files (S.told site.old)) in S.tells
@@ -69,6 +79,15 @@ pub fn ensure_folder<S: Site>(
     requires none_running { (S.seen site.old).running ≡ [] }
     requires firm { S.tells → AllFirm (files (S.told site.old)) }
     ensures none_running { (S.seen site.new).running ≡ [] }
+    ensures answers { TellsOfAnswer (gained (S.seen site.old).log (S.seen site.new).log) result }
+    ensures log { is_made conf.now.form place ≡ true
+        → GainsWithin S.tells S.gives conf.now (rank_of place) (rank_of place + 1)
+        (S.seen site.old) (S.seen site.new) (S.given site.old) (S.given site.new) (S.told site.new) }
+    ensures logged { is_made conf.now.form place ≡ true
+        → OnOk result (FinishesWithin S.tells S.gives conf.now (rank_of place) (rank_of place + 1)
+        (S.seen site.old) (S.seen site.new) (S.given site.old) (S.given site.new) (S.told site.new)) }
+    ensures idle { S.tells → IsSure place (files (S.told site.old))
+        → (S.seen site.new ≡ S.seen site.old) × (S.given site.new ≡ S.given site.old) }
     ensures firm { S.tells → OnOk result (AllFirm (files (S.told site.new))) }
     ensures sure { S.tells → OnOk result (IsSure place (files (S.told site.new))) }
     // Whole folders stay as they are, and in the end nothing else has changed.

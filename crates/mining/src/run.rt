@@ -13,6 +13,9 @@ ghost use Rattle.mining.specs.Between.{AllFirm, IsSure, KeepsWhole};
 ghost use Rattle.mining.specs.Acked.{Acks};
 ghost use Rattle.mining.specs.Iterations.{IsAt, lines_after};
 ghost use Rattle.mining.specs.Stops.{IsOfJobs, IsOfMining};
+ghost use Rattle.mining.specs.Jobs.{FinishesWithin, GainsWithin, rank_after, rank_behind, rank_of_end};
+ghost use Rattle.mining.specs.Failures.{TellsOfAnswer};
+ghost use Rattle.job.specs.Failing.{gained};
 
 use crate::iterate::next_iteration;
 use crate::make::ensure_folder;
@@ -69,6 +72,12 @@ pub fn run_iterations<S: Site>(
     requires firm { S.tells → AllFirm (files (S.told site.old)) }
     requires sure { S.tells → IsSure (Place.Vector from.k) (files (S.told site.old)) }
     ensures none_running { (S.seen site.new).running ≡ [] }
+    ensures answers { TellsOfAnswer (gained (S.seen site.old).log (S.seen site.new).log) result }
+    ensures log { GainsWithin S.tells S.gives conf.now (rank_after from.k) rank_of_end
+        (S.seen site.old) (S.seen site.new) (S.given site.old) (S.given site.new) (S.told site.new) }
+    ensures logged { IfOk result (λ last.
+        FinishesWithin S.tells S.gives conf.now (rank_after from.k) (rank_after last.k)
+        (S.seen site.old) (S.seen site.new) (S.given site.old) (S.given site.new) (S.told site.new)) }
     ensures firm { S.tells → OnOk result (AllFirm (files (S.told site.new))) }
     ensures sure { S.tells → IfOk result (λ last. IsSure (Place.Vector last.k) (files (S.told site.new))) }
     ensures stays { S.tells
@@ -113,6 +122,11 @@ pub fn make_result<S: Site>(alloc: Global, site: &mut S, conf: &Conf, last: u32)
     requires none_running { (S.seen site.old).running ≡ [] }
     requires firm { S.tells → AllFirm (files (S.told site.old)) }
     ensures none_running { (S.seen site.new).running ≡ [] }
+    ensures answers { TellsOfAnswer (gained (S.seen site.old).log (S.seen site.new).log) result }
+    ensures log { GainsWithin S.tells S.gives conf.now rank_of_end rank_behind
+        (S.seen site.old) (S.seen site.new) (S.given site.old) (S.given site.new) (S.told site.new) }
+    ensures logged { OnOk result (FinishesWithin S.tells S.gives conf.now rank_of_end rank_behind
+        (S.seen site.old) (S.seen site.new) (S.given site.old) (S.given site.new) (S.told site.new)) }
     ensures firm { S.tells → OnOk result (AllFirm (files (S.told site.new))) }
     ensures sure { S.tells → OnOk result (IsSure Place.Results (files (S.told site.new))) }
     ensures stays { S.tells

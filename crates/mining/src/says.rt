@@ -8,6 +8,7 @@ ghost use Rattle.report.specs.Lines.{done_text, iteration_text, resumed_text};
 ghost use Rattle.mining.specs.Acked.{Acks};
 ghost use Rattle.mining.specs.Between.{IsSure};
 ghost use Rattle.mining.specs.Stops.{IsOfMining};
+ghost use Rattle.mining.specs.Failures.{IsOfNoTask};
 
 use crate::place::Place;
 use crate::run::Reached;
@@ -20,6 +21,8 @@ use std::alloc::Global;
 /// Says the line of iteration `k`, which is whole.
 pub fn say_iteration<S: Site>(alloc: Global, site: &mut S, k: u32, changed: u64) -> Result<(), Stop>
     ensures seen { S.seen site.new ≡ S.seen site.old }
+    ensures given { S.tells → S.given site.new ≡ S.given site.old }
+    ensures no_task { IfErr result IsOfNoTask }
     ensures told { S.tells → S.told site.new ≡ S.told site.old }
     ensures ok { OnOk result (S.said site.new ≡ added (S.said site.old) (iteration_text k changed)) }
     ensures part { AddsPart (S.said site.old) (S.said site.new) (iteration_text k changed) }
@@ -40,6 +43,8 @@ pub fn say_iteration<S: Site>(alloc: Global, site: &mut S, k: u32, changed: u64)
 /// Says that the run goes on after iteration `k`, up to which all are whole.
 pub fn say_resumed<S: Site>(alloc: Global, site: &mut S, k: u32) -> Result<(), Stop>
     ensures seen { S.seen site.new ≡ S.seen site.old }
+    ensures given { S.tells → S.given site.new ≡ S.given site.old }
+    ensures no_task { IfErr result IsOfNoTask }
     ensures told { S.tells → S.told site.new ≡ S.told site.old }
     ensures ok { OnOk result (S.said site.new ≡ added (S.said site.old) (resumed_text k)) }
     ensures part { AddsPart (S.said site.old) (S.said site.new) (resumed_text k) }
@@ -67,6 +72,8 @@ pub fn say_done<S: Site>(
 ) -> Result<(), Stop>
     requires mines { is_mining conf.now.command ≡ true }
     ensures seen { S.seen site.new ≡ S.seen site.old }
+    ensures given { S.tells → S.given site.new ≡ S.given site.old }
+    ensures no_task { IfErr result IsOfNoTask }
     ensures told { S.tells → S.told site.new ≡ S.told site.old }
     ensures ok { OnOk result (S.said site.new ≡ added (S.said site.old) (done_text conf.now last.k (last.changed == 0) total)) }
     ensures part { AddsPart (S.said site.old) (S.said site.new) (done_text conf.now last.k (last.changed == 0) total) }

@@ -4,7 +4,8 @@ ghost use Rattle.dir_disk.specs.Moments.{Both, IsFresh, Through, files};
 ghost use Rattle.committer.specs.Folders.{IsUnmarked};
 ghost use Rattle.mining.specs.Places.{folder_of, IsInTable};
 ghost use Rattle.mining.specs.Between.{AllFirm, IsSure};
-ghost use Rattle.mining.specs.Stops.{IsOfJobs};
+ghost use Rattle.mining.specs.Stops.{IsOfDisk, IsOfJobs};
+ghost use Rattle.mining.specs.Failures.{IsOfNoTask};
 
 use crate::place::Place;
 use crate::stop::Stop;
@@ -17,6 +18,9 @@ pub fn has<S: Site>(alloc: Global, site: &mut S, place: Place) -> Result<bool, S
     requires none_running { (S.seen site.old).running ≡ [] }
     requires firm { S.tells → AllFirm (files (S.told site.old)) }
     ensures none_running { (S.seen site.new).running ≡ [] }
+    ensures seen { S.seen site.new ≡ S.seen site.old }
+    ensures given { S.tells → S.given site.new ≡ S.given site.old }
+    ensures no_task { IfErr result IsOfNoTask }
     ensures stands { S.tells
         → Through (Both (λ state. state ≡ files (S.told site.old))) (S.told site.old) (S.told site.new) }
     ensures firm { S.tells → AllFirm (files (S.told site.new)) }
@@ -29,6 +33,7 @@ pub fn has<S: Site>(alloc: Global, site: &mut S, place: Place) -> Result<bool, S
     ensures say_faults { S.say_faults site.new ≡ S.say_faults site.old }
     ensures cause { HasCause Stop.Disk (S.faults site.old) (S.faults site.new) result }
     ensures err { IfErr result IsOfJobs }
+    ensures of_disk { IfErr result IsOfDisk }
 {
     let mark = place.mark(alloc)?;
     let size = site.size(alloc, &mark)?;

@@ -1,3 +1,7 @@
+use Rattle.mining.proofs.Failures.{answer_err, stays_answer}
+use Rattle.job.specs.Failing.{gained}
+use Rattle.mining.proofs.JobsAdded.{gain_stays, finish_stays, done_so, steps_on, stands_on}
+use Rattle.mining.specs.Jobs.{FinishesWithin, rank_from, rank_after, rank_of_end, rank_behind}
 use Rattle.std.proofs.Common.{◌≡◌, ℕ, List, sym, subst}
 use Rattle.dir_disk.specs.Moments.{Told, EachImage, Through, Both, files}
 use Rattle.dir_disk.specs.Streams.{AddsPart, added}
@@ -46,3 +50,19 @@ returns-clause-ok g c =
     let mining : Mining = mining_of g.S.Site.gives c.args.conf.now edges in
     let line = done_is mining c.args.last.k c.args.last.changed c.in_ok-total.total (last_some mining c.args.last.k last) at.count (c.in_ok-total.ensures.total edges tells kept last form sure) in
     subst (λ (text : List ℕ). OnOk c.say_done.result (g.S.Console.said c.say_done.new.site ≡ added (g.S.Console.said c.args.site.now) text)) line (subst (λ o. OnOk c.say_done.result (g.S.Console.said c.say_done.new.site ≡ added o (done_text c.args.conf.now c.args.last.k (c.args.last.changed == 0) c.in_ok-total.total))) c.result_total.ensures.said c.say_done.ensures.ok)
+
+pub returns-clause-log : goal.returns-clause-log
+returns-clause-log g c =
+    gain_stays g.S.Dir.tells g.S.Site.gives c.args.conf.now (g.S.Site.seen c.args.site.now) (g.S.Site.seen c.result_total.new.site) (g.S.Site.seen c.say_done.new.site) (g.S.Site.given c.args.site.now) (g.S.Site.given c.result_total.new.site) (g.S.Site.given c.say_done.new.site) (g.S.Dir.told c.result_total.new.site) (g.S.Dir.told c.say_done.new.site) rank_of_end rank_behind (λ tells. stands_on (g.S.Dir.told c.result_total.new.site) (g.S.Dir.told c.say_done.new.site) (c.say_done.ensures.told tells)) c.in_ok-total.ensures.logged c.say_done.ensures.seen c.say_done.ensures.given
+
+pub returns-clause-logged : goal.returns-clause-logged
+returns-clause-logged g c =
+    done_so (FinishesWithin g.S.Dir.tells g.S.Site.gives c.args.conf.now rank_of_end rank_behind (g.S.Site.seen c.args.site.now) (g.S.Site.seen c.say_done.new.site) (g.S.Site.given c.args.site.now) (g.S.Site.given c.say_done.new.site) (g.S.Dir.told c.say_done.new.site)) c.say_done.result (finish_stays g.S.Dir.tells g.S.Site.gives c.args.conf.now (g.S.Site.seen c.args.site.now) (g.S.Site.seen c.result_total.new.site) (g.S.Site.seen c.say_done.new.site) (g.S.Site.given c.args.site.now) (g.S.Site.given c.result_total.new.site) (g.S.Site.given c.say_done.new.site) (g.S.Dir.told c.result_total.new.site) (g.S.Dir.told c.say_done.new.site) rank_of_end rank_behind (λ tells. stands_on (g.S.Dir.told c.result_total.new.site) (g.S.Dir.told c.say_done.new.site) (c.say_done.ensures.told tells)) c.in_ok-total.ensures.logged c.say_done.ensures.seen c.say_done.ensures.given)
+
+pub returns-in_err-total-clause-answers : goal.returns-in_err-total-clause-answers
+returns-in_err-total-clause-answers g c =
+    answer_err (Unit {0}) (gained (g.S.Site.seen c.args.site.now).log (g.S.Site.seen c.result_total.new.site).log) c.from_residual.result (c.in_err-total.field-0.0) c.from_residual.ensures.1 (c.in_err-total.ensures.answers)
+
+pub returns-clause-answers : goal.returns-clause-answers
+returns-clause-answers g c =
+    stays_answer (Unit {0}) (g.S.Site.seen c.args.site.now) (g.S.Site.seen c.result_total.new.site) (g.S.Site.seen c.say_done.new.site) c.say_done.result c.say_done.ensures.seen c.say_done.ensures.no_task c.in_ok-total.ensures.answers

@@ -1,3 +1,7 @@
+use Rattle.mining.proofs.Failures.{answer_err, answer_then, stop_of_none}
+use Rattle.job.specs.Failing.{gained}
+use Rattle.mining.proofs.JobsAdded.{gain_within, behind_gain, behind_finish, if_done, steps_on}
+use Rattle.mining.specs.Jobs.{FinishesWithin, rank_after, rank_of_end, rank_behind}
 use Rattle.std.proofs.Common.{◌≡◌, ◌^◌, ◌<◌, ◌-◌, ℕ, Some, refl, sym, subst, arith}
 use Rattle.dir_disk.specs.Moments.{Told, EachImage, Through, files}
 use Rattle.dir_disk.specs.Streams.{AddsPart, added}
@@ -78,3 +82,31 @@ returns-clause-part g c =
     let end = sym c.if-not-is_end.ensures in
     let is : last_of mining ≡ Some k = is_last mining k c.in_ok-last.last.changed at.count (files e) (λ q. g.met.S.Dir.now_allowed c.run_iterations.new.site q tells) kept_then (end_some c.args.conf.now k (Some c.in_ok-last.last.changed) end) c.in_ok-last.ensures.few.1 few sure end in
     subst (λ (m : ℕ). AddsPart (g.S.Console.said c.args.site.now) (g.S.Console.said c.finish.new.site) (console_after mining c.args.from.k m)) (same_last mining k l is last) (part_then (g.S.Console.said c.args.site.now) (g.S.Console.said c.run_iterations.new.site) (g.S.Console.said c.finish.new.site) (lines_after mining c.args.from.k (k - c.args.from.k)) (done_line_at mining k) (c.in_ok-last.ensures.said edges tells kept start) (c.finish.ensures.part edges tells kept_then is at form sure))
+
+pub returns-in_err-last-clause-log : goal.returns-in_err-last-clause-log
+returns-in_err-last-clause-log g c =
+    gain_within g.S.Dir.tells g.S.Site.gives c.args.conf.now (rank_after c.args.from.k) (rank_after c.args.from.k) rank_of_end rank_behind (g.S.Site.seen c.args.site.now) (g.S.Site.seen c.run_iterations.new.site) (g.S.Site.given c.args.site.now) (g.S.Site.given c.run_iterations.new.site) (g.S.Dir.told c.run_iterations.new.site) (omega arith) (omega arith) c.run_iterations.ensures.log
+
+pub returns-then-not-is_end-clause-log : goal.returns-then-not-is_end-clause-log
+returns-then-not-is_end-clause-log g c =
+    gain_within g.S.Dir.tells g.S.Site.gives c.args.conf.now (rank_after c.args.from.k) (rank_after c.args.from.k) rank_of_end rank_behind (g.S.Site.seen c.args.site.now) (g.S.Site.seen c.run_iterations.new.site) (g.S.Site.given c.args.site.now) (g.S.Site.given c.run_iterations.new.site) (g.S.Dir.told c.run_iterations.new.site) (omega arith) (omega arith) c.run_iterations.ensures.log
+
+pub returns-clause-log : goal.returns-clause-log
+returns-clause-log g c =
+    let small = most_small c.args.conf.now c.requires.limits in let most = c.in_ok-last.ensures.few.1 in behind_gain g.S.Dir.tells g.S.Site.gives c.args.conf.now (g.S.Site.seen c.args.site.now) (g.S.Site.seen c.run_iterations.new.site) (g.S.Site.seen c.finish.new.site) (g.S.Site.given c.args.site.now) (g.S.Site.given c.run_iterations.new.site) (g.S.Site.given c.finish.new.site) (g.S.Dir.told c.run_iterations.new.site) (g.S.Dir.told c.finish.new.site) (rank_after c.args.from.k) (rank_after c.args.from.k) (rank_after c.in_ok-last.last.k) rank_of_end rank_behind rank_behind (omega arith) (omega (arith, small, most)) (omega arith) (λ tells. steps_on (g.S.Dir.told c.run_iterations.new.site) (g.S.Dir.told c.finish.new.site) (c.finish.ensures.stays tells)) c.in_ok-last.ensures.logged c.finish.ensures.log
+
+pub returns-clause-logged : goal.returns-clause-logged
+returns-clause-logged g c =
+    let small = most_small c.args.conf.now c.requires.limits in let most = c.in_ok-last.ensures.few.1 in if_done (FinishesWithin g.S.Dir.tells g.S.Site.gives c.args.conf.now rank_of_end rank_behind (g.S.Site.seen c.run_iterations.new.site) (g.S.Site.seen c.finish.new.site) (g.S.Site.given c.run_iterations.new.site) (g.S.Site.given c.finish.new.site) (g.S.Dir.told c.finish.new.site)) (FinishesWithin g.S.Dir.tells g.S.Site.gives c.args.conf.now (rank_after c.args.from.k) rank_behind (g.S.Site.seen c.args.site.now) (g.S.Site.seen c.finish.new.site) (g.S.Site.given c.args.site.now) (g.S.Site.given c.finish.new.site) (g.S.Dir.told c.finish.new.site)) c.finish.result (λ next. behind_finish g.S.Dir.tells g.S.Site.gives c.args.conf.now (g.S.Site.seen c.args.site.now) (g.S.Site.seen c.run_iterations.new.site) (g.S.Site.seen c.finish.new.site) (g.S.Site.given c.args.site.now) (g.S.Site.given c.run_iterations.new.site) (g.S.Site.given c.finish.new.site) (g.S.Dir.told c.run_iterations.new.site) (g.S.Dir.told c.finish.new.site) (rank_after c.args.from.k) (rank_after c.args.from.k) (rank_after c.in_ok-last.last.k) rank_of_end rank_behind rank_behind (omega arith) (omega (arith, small, most)) (omega arith) (λ tells. steps_on (g.S.Dir.told c.run_iterations.new.site) (g.S.Dir.told c.finish.new.site) (c.finish.ensures.stays tells)) c.in_ok-last.ensures.logged next) c.finish.ensures.logged
+
+pub returns-in_err-last-clause-answers : goal.returns-in_err-last-clause-answers
+returns-in_err-last-clause-answers g c =
+    answer_err (Unit {0}) (gained (g.S.Site.seen c.args.site.now).log (g.S.Site.seen c.run_iterations.new.site).log) c.from_residual.result (c.in_err-last.field-0.0) c.from_residual.ensures.1 (c.in_err-last.ensures.answers)
+
+pub returns-then-not-is_end-clause-answers : goal.returns-then-not-is_end-clause-answers
+returns-then-not-is_end-clause-answers g c =
+    stop_of_none (gained (g.S.Site.seen c.args.site.now).log (g.S.Site.seen c.run_iterations.new.site).log) c.not_ended.result c.not_ended.ensures.no_task c.in_ok-last.ensures.answers
+
+pub returns-clause-answers : goal.returns-clause-answers
+returns-clause-answers g c =
+    let small = most_small c.args.conf.now c.requires.limits in let most = c.in_ok-last.ensures.few.1 in answer_then g.S.Dir.tells g.S.Site.gives c.args.conf.now (g.S.Site.seen c.args.site.now) (g.S.Site.seen c.run_iterations.new.site) (g.S.Site.seen c.finish.new.site) (g.S.Site.given c.args.site.now) (g.S.Site.given c.run_iterations.new.site) (g.S.Site.given c.finish.new.site) (g.S.Dir.told c.run_iterations.new.site) (g.S.Dir.told c.finish.new.site) (Unit {0}) (rank_after c.args.from.k) (rank_after c.in_ok-last.last.k) rank_of_end rank_behind c.finish.result (omega (arith, small, most)) c.in_ok-last.ensures.logged c.finish.ensures.log c.in_ok-last.ensures.answers c.finish.ensures.answers

@@ -1,3 +1,7 @@
+use Rattle.mining.proofs.Failures.{answer_err, stays_answer}
+use Rattle.job.specs.Failing.{gained}
+use Rattle.mining.proofs.JobsAdded.{gain_stays, finish_stays, done_so, steps_on}
+use Rattle.mining.specs.Jobs.{FinishesWithin, rank_from, rank_after, rank_of_end, rank_behind}
 use Rattle.std.proofs.Common.{◌≡◌, ◌∙◌, ℕ, Some, sym}
 use Rattle.dir_disk.specs.State.{IsSound}
 use Rattle.job.specs.Inputs.{bytes_at_each}
@@ -38,3 +42,19 @@ returns-clause-total g c =
     let sound : IsSound (files e) = λ q. g.met.S.Dir.now_allowed c.make_result.new.site q tells in
     let is = total_is mining (files e) sound (kept_after mining d e kept first) (c.in_ok-make_result.ensures.sure tells) in
     if_ok (λ (total : ℕ). total_in c.args.conf.now.command (bytes_at_each (files e) (part_paths Results c.args.conf.now.reducers)) ≡ Some total) (λ (total : ℕ). total_in c.args.conf.now.command (flow mining Results) ≡ Some total) c.read_total.result (λ total counted. sym is ∙ counted) (c.read_total.ensures.total tells)
+
+pub returns-clause-log : goal.returns-clause-log
+returns-clause-log g c =
+    gain_stays g.S.Dir.tells g.S.Site.gives c.args.conf.now (g.S.Site.seen c.args.site.now) (g.S.Site.seen c.make_result.new.site) (g.S.Site.seen c.read_total.new.site) (g.S.Site.given c.args.site.now) (g.S.Site.given c.make_result.new.site) (g.S.Site.given c.read_total.new.site) (g.S.Dir.told c.make_result.new.site) (g.S.Dir.told c.read_total.new.site) rank_of_end rank_behind (λ tells. steps_on (g.S.Dir.told c.make_result.new.site) (g.S.Dir.told c.read_total.new.site) (c.read_total.ensures.stands tells)) c.in_ok-make_result.ensures.logged c.read_total.ensures.seen c.read_total.ensures.given
+
+pub returns-clause-logged : goal.returns-clause-logged
+returns-clause-logged g c =
+    done_so (FinishesWithin g.S.Dir.tells g.S.Site.gives c.args.conf.now rank_of_end rank_behind (g.S.Site.seen c.args.site.now) (g.S.Site.seen c.read_total.new.site) (g.S.Site.given c.args.site.now) (g.S.Site.given c.read_total.new.site) (g.S.Dir.told c.read_total.new.site)) c.read_total.result (finish_stays g.S.Dir.tells g.S.Site.gives c.args.conf.now (g.S.Site.seen c.args.site.now) (g.S.Site.seen c.make_result.new.site) (g.S.Site.seen c.read_total.new.site) (g.S.Site.given c.args.site.now) (g.S.Site.given c.make_result.new.site) (g.S.Site.given c.read_total.new.site) (g.S.Dir.told c.make_result.new.site) (g.S.Dir.told c.read_total.new.site) rank_of_end rank_behind (λ tells. steps_on (g.S.Dir.told c.make_result.new.site) (g.S.Dir.told c.read_total.new.site) (c.read_total.ensures.stands tells)) c.in_ok-make_result.ensures.logged c.read_total.ensures.seen c.read_total.ensures.given)
+
+pub returns-in_err-make_result-clause-answers : goal.returns-in_err-make_result-clause-answers
+returns-in_err-make_result-clause-answers g c =
+    answer_err ℕ (gained (g.S.Site.seen c.args.site.now).log (g.S.Site.seen c.make_result.new.site).log) c.from_residual.result (c.in_err-make_result.field-0.0) c.from_residual.ensures.1 (c.in_err-make_result.ensures.answers)
+
+pub returns-clause-answers : goal.returns-clause-answers
+returns-clause-answers g c =
+    stays_answer ℕ (g.S.Site.seen c.args.site.now) (g.S.Site.seen c.make_result.new.site) (g.S.Site.seen c.read_total.new.site) c.read_total.result c.read_total.ensures.seen c.read_total.ensures.no_task c.in_ok-make_result.ensures.answers

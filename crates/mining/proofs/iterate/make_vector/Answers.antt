@@ -1,3 +1,10 @@
+use Rattle.mining.proofs.Failures.{answer_err, answer_then}
+use Rattle.job.specs.Failing.{gained}
+use Rattle.mining.proofs.JobsAdded.{gain_within, behind_gain, behind_finish, if_done, steps_on, rank_messages, rank_vector}
+use Rattle.mining.specs.Jobs.{FinishesWithin, rank_from, rank_after}
+use Rattle.mining.specs.Places.{rank_of}
+use Rattle.mining.specs.declared.place.Place.TheVariants.{Messages, Vector}
+use Rattle.std.proofs.Common.{refl, arith, ◌+◌, ◌≡◌, ◌*◌}
 use Rattle.dir_disk.specs.State.{IsSound}
 use Rattle.dir_disk.specs.Moments.{Told, EachImage, Through, files}
 use Rattle.dir_disk.proofs.Through.{then_goes}
@@ -34,3 +41,23 @@ returns-clause-kept g c =
     let kept_then : AllKept mining (files e) = kept_after mining d e kept first in
     let next_then : IsNext mining c.args.k (files e) = next_kept mining c.args.k (files d) (files e) (stays_after d e (c.ensure_folder.ensures.stays tells)) next in
     then_goes (EachImage (Kept mining)) d e f first (c.ensure_folder-2.ensures.kept edges tells kept_then (due_vector mining c.args.k (files e) sound_then kept_then next_then) (read_vector mining c.args.k (files e) sound_then kept_then next_then 0 (c.in_ok-ensure_folder.ensures.sure tells)))
+
+pub returns-in_err-ensure_folder-clause-log : goal.returns-in_err-ensure_folder-clause-log
+returns-in_err-ensure_folder-clause-log g c =
+    let m = rank_messages c.args.k in let v = rank_vector c.args.k in gain_within g.S.Dir.tells g.S.Site.gives c.args.conf.now (rank_from c.args.k) (rank_of (Messages c.args.k)) (rank_of (Messages c.args.k) + 1) (rank_after c.args.k) (g.S.Site.seen c.args.site.now) (g.S.Site.seen c.ensure_folder.new.site) (g.S.Site.given c.args.site.now) (g.S.Site.given c.ensure_folder.new.site) (g.S.Dir.told c.ensure_folder.new.site) (omega (arith, m)) (omega (arith, m)) (c.ensure_folder.ensures.log refl)
+
+pub returns-clause-log : goal.returns-clause-log
+returns-clause-log g c =
+    let m = rank_messages c.args.k in let v = rank_vector c.args.k in behind_gain g.S.Dir.tells g.S.Site.gives c.args.conf.now (g.S.Site.seen c.args.site.now) (g.S.Site.seen c.ensure_folder.new.site) (g.S.Site.seen c.ensure_folder-2.new.site) (g.S.Site.given c.args.site.now) (g.S.Site.given c.ensure_folder.new.site) (g.S.Site.given c.ensure_folder-2.new.site) (g.S.Dir.told c.ensure_folder.new.site) (g.S.Dir.told c.ensure_folder-2.new.site) (rank_from c.args.k) (rank_of (Messages c.args.k)) (rank_of (Messages c.args.k) + 1) (rank_of (Vector c.args.k)) (rank_of (Vector c.args.k) + 1) (rank_after c.args.k) (omega (arith, m)) (omega (arith, m, v)) (omega (arith, v)) (λ tells. steps_on (g.S.Dir.told c.ensure_folder.new.site) (g.S.Dir.told c.ensure_folder-2.new.site) (c.ensure_folder-2.ensures.stays tells)) (c.in_ok-ensure_folder.ensures.logged refl) (c.ensure_folder-2.ensures.log refl)
+
+pub returns-clause-logged : goal.returns-clause-logged
+returns-clause-logged g c =
+    if_done (FinishesWithin g.S.Dir.tells g.S.Site.gives c.args.conf.now (rank_of (Vector c.args.k)) (rank_of (Vector c.args.k) + 1) (g.S.Site.seen c.ensure_folder.new.site) (g.S.Site.seen c.ensure_folder-2.new.site) (g.S.Site.given c.ensure_folder.new.site) (g.S.Site.given c.ensure_folder-2.new.site) (g.S.Dir.told c.ensure_folder-2.new.site)) (FinishesWithin g.S.Dir.tells g.S.Site.gives c.args.conf.now (rank_from c.args.k) (rank_after c.args.k) (g.S.Site.seen c.args.site.now) (g.S.Site.seen c.ensure_folder-2.new.site) (g.S.Site.given c.args.site.now) (g.S.Site.given c.ensure_folder-2.new.site) (g.S.Dir.told c.ensure_folder-2.new.site)) c.ensure_folder-2.result (λ next. let m = rank_messages c.args.k in let v = rank_vector c.args.k in behind_finish g.S.Dir.tells g.S.Site.gives c.args.conf.now (g.S.Site.seen c.args.site.now) (g.S.Site.seen c.ensure_folder.new.site) (g.S.Site.seen c.ensure_folder-2.new.site) (g.S.Site.given c.args.site.now) (g.S.Site.given c.ensure_folder.new.site) (g.S.Site.given c.ensure_folder-2.new.site) (g.S.Dir.told c.ensure_folder.new.site) (g.S.Dir.told c.ensure_folder-2.new.site) (rank_from c.args.k) (rank_of (Messages c.args.k)) (rank_of (Messages c.args.k) + 1) (rank_of (Vector c.args.k)) (rank_of (Vector c.args.k) + 1) (rank_after c.args.k) (omega (arith, m)) (omega (arith, m, v)) (omega (arith, v)) (λ tells. steps_on (g.S.Dir.told c.ensure_folder.new.site) (g.S.Dir.told c.ensure_folder-2.new.site) (c.ensure_folder-2.ensures.stays tells)) (c.in_ok-ensure_folder.ensures.logged refl) next) (c.ensure_folder-2.ensures.logged refl)
+
+pub returns-in_err-ensure_folder-clause-answers : goal.returns-in_err-ensure_folder-clause-answers
+returns-in_err-ensure_folder-clause-answers g c =
+    answer_err (Unit {0}) (gained (g.S.Site.seen c.args.site.now).log (g.S.Site.seen c.ensure_folder.new.site).log) c.from_residual.result (c.in_err-ensure_folder.field-0.0) c.from_residual.ensures.1 (c.in_err-ensure_folder.ensures.answers)
+
+pub returns-clause-answers : goal.returns-clause-answers
+returns-clause-answers g c =
+    let m = rank_messages c.args.k in let v = rank_vector c.args.k in answer_then g.S.Dir.tells g.S.Site.gives c.args.conf.now (g.S.Site.seen c.args.site.now) (g.S.Site.seen c.ensure_folder.new.site) (g.S.Site.seen c.ensure_folder-2.new.site) (g.S.Site.given c.args.site.now) (g.S.Site.given c.ensure_folder.new.site) (g.S.Site.given c.ensure_folder-2.new.site) (g.S.Dir.told c.ensure_folder.new.site) (g.S.Dir.told c.ensure_folder-2.new.site) (Unit {0}) (rank_of (Messages c.args.k)) (rank_of (Messages c.args.k) + 1) (rank_of (Vector c.args.k)) (rank_of (Vector c.args.k) + 1) c.ensure_folder-2.result (omega (arith, m, v)) (c.in_ok-ensure_folder.ensures.logged refl) (c.ensure_folder-2.ensures.log refl) c.in_ok-ensure_folder.ensures.answers c.ensure_folder-2.ensures.answers

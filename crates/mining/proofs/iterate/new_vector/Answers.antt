@@ -1,3 +1,7 @@
+use Rattle.mining.proofs.Failures.{answer_err, stays_answer}
+use Rattle.job.specs.Failing.{gained}
+use Rattle.mining.proofs.JobsAdded.{gain_stays, finish_stays, done_so, steps_on}
+use Rattle.mining.specs.Jobs.{FinishesWithin, rank_from, rank_after, rank_of_end, rank_behind}
 use Rattle.std.proofs.Common.{◌≡◌, ℕ, Some, sym, ◌∙◌}
 use Rattle.dir_disk.specs.State.{IsSound}
 use Rattle.dir_disk.specs.Moments.{Told, EachImage, Through, files}
@@ -38,3 +42,19 @@ returns-clause-count g c =
     let sound : IsSound (files e) = λ q. g.met.S.Dir.now_allowed c.make_vector.new.site q tells in
     let is = count_is mining c.args.k (files e) sound (kept_after mining d e kept first) c.requires.few (c.in_ok-make_vector.ensures.sure tells) in
     if_ok (λ (changed : ℕ). changes_in (bytes_at_each (files e) (part_paths (Vector c.args.k) c.args.conf.now.reducers)) ≡ Some changed) (λ (changed : ℕ). count_of mining c.args.k ≡ Some changed) c.count_changed.result (λ changed counted. sym is ∙ counted) (c.count_changed.ensures.count tells)
+
+pub returns-clause-log : goal.returns-clause-log
+returns-clause-log g c =
+    gain_stays g.S.Dir.tells g.S.Site.gives c.args.conf.now (g.S.Site.seen c.args.site.now) (g.S.Site.seen c.make_vector.new.site) (g.S.Site.seen c.count_changed.new.site) (g.S.Site.given c.args.site.now) (g.S.Site.given c.make_vector.new.site) (g.S.Site.given c.count_changed.new.site) (g.S.Dir.told c.make_vector.new.site) (g.S.Dir.told c.count_changed.new.site) (rank_from c.args.k) (rank_after c.args.k) (λ tells. steps_on (g.S.Dir.told c.make_vector.new.site) (g.S.Dir.told c.count_changed.new.site) (c.count_changed.ensures.stands tells)) c.in_ok-make_vector.ensures.logged c.count_changed.ensures.seen c.count_changed.ensures.given
+
+pub returns-clause-logged : goal.returns-clause-logged
+returns-clause-logged g c =
+    done_so (FinishesWithin g.S.Dir.tells g.S.Site.gives c.args.conf.now (rank_from c.args.k) (rank_after c.args.k) (g.S.Site.seen c.args.site.now) (g.S.Site.seen c.count_changed.new.site) (g.S.Site.given c.args.site.now) (g.S.Site.given c.count_changed.new.site) (g.S.Dir.told c.count_changed.new.site)) c.count_changed.result (finish_stays g.S.Dir.tells g.S.Site.gives c.args.conf.now (g.S.Site.seen c.args.site.now) (g.S.Site.seen c.make_vector.new.site) (g.S.Site.seen c.count_changed.new.site) (g.S.Site.given c.args.site.now) (g.S.Site.given c.make_vector.new.site) (g.S.Site.given c.count_changed.new.site) (g.S.Dir.told c.make_vector.new.site) (g.S.Dir.told c.count_changed.new.site) (rank_from c.args.k) (rank_after c.args.k) (λ tells. steps_on (g.S.Dir.told c.make_vector.new.site) (g.S.Dir.told c.count_changed.new.site) (c.count_changed.ensures.stands tells)) c.in_ok-make_vector.ensures.logged c.count_changed.ensures.seen c.count_changed.ensures.given)
+
+pub returns-in_err-make_vector-clause-answers : goal.returns-in_err-make_vector-clause-answers
+returns-in_err-make_vector-clause-answers g c =
+    answer_err ℕ (gained (g.S.Site.seen c.args.site.now).log (g.S.Site.seen c.make_vector.new.site).log) c.from_residual.result (c.in_err-make_vector.field-0.0) c.from_residual.ensures.1 (c.in_err-make_vector.ensures.answers)
+
+pub returns-clause-answers : goal.returns-clause-answers
+returns-clause-answers g c =
+    stays_answer ℕ (g.S.Site.seen c.args.site.now) (g.S.Site.seen c.make_vector.new.site) (g.S.Site.seen c.count_changed.new.site) c.count_changed.result c.count_changed.ensures.seen c.count_changed.ensures.no_task c.in_ok-make_vector.ensures.answers

@@ -1,4 +1,8 @@
-use Rattle.std.proofs.Common.{refl}
+use Rattle.mining.proofs.Failures.{answer_err, stays_stop, stays_done}
+use Rattle.job.specs.Failing.{gained}
+use Rattle.mining.proofs.JobsAdded.{gain_stays, finish_stays, done_so, steps_on}
+use Rattle.mining.specs.Jobs.{FinishesWithin, rank_from, rank_after, rank_of_end, rank_behind}
+use Rattle.std.proofs.Common.{refl, ◌≡◌, ℕ}
 use Rattle.dir_disk.specs.Moments.{Told, EachImage, Through, files}
 use Rattle.dir_disk.proofs.Through.{then_goes}
 use Rattle.mining.specs.declared.place.Place.TheVariants.{Vector}
@@ -60,3 +64,27 @@ returns-clause-kept g c =
     let f : Told = g.S.Dir.told c.announce.new.site in
     let first : Through (EachImage (Kept mining)) d e = c.new_vector.ensures.kept edges tells kept next in
     then_goes (EachImage (Kept mining)) d e f first (c.announce.ensures.kept mining tells (kept_after mining d e kept first) (next_kept mining c.args.k (files d) (files e) (stays_after d e (c.new_vector.ensures.stays tells)) next))
+
+pub returns-in_err-announce-clause-log : goal.returns-in_err-announce-clause-log
+returns-in_err-announce-clause-log g c =
+    gain_stays g.S.Dir.tells g.S.Site.gives c.args.conf.now (g.S.Site.seen c.args.site.now) (g.S.Site.seen c.new_vector.new.site) (g.S.Site.seen c.announce.new.site) (g.S.Site.given c.args.site.now) (g.S.Site.given c.new_vector.new.site) (g.S.Site.given c.announce.new.site) (g.S.Dir.told c.new_vector.new.site) (g.S.Dir.told c.announce.new.site) (rank_from c.args.k) (rank_after c.args.k) (λ tells. steps_on (g.S.Dir.told c.new_vector.new.site) (g.S.Dir.told c.announce.new.site) (c.announce.ensures.stays tells)) c.in_ok-changed.ensures.logged c.announce.ensures.seen c.announce.ensures.given
+
+pub returns-clause-log : goal.returns-clause-log
+returns-clause-log g c =
+    gain_stays g.S.Dir.tells g.S.Site.gives c.args.conf.now (g.S.Site.seen c.args.site.now) (g.S.Site.seen c.new_vector.new.site) (g.S.Site.seen c.announce.new.site) (g.S.Site.given c.args.site.now) (g.S.Site.given c.new_vector.new.site) (g.S.Site.given c.announce.new.site) (g.S.Dir.told c.new_vector.new.site) (g.S.Dir.told c.announce.new.site) (rank_from c.args.k) (rank_after c.args.k) (λ tells. steps_on (g.S.Dir.told c.new_vector.new.site) (g.S.Dir.told c.announce.new.site) (c.announce.ensures.stays tells)) c.in_ok-changed.ensures.logged c.announce.ensures.seen c.announce.ensures.given
+
+pub returns-clause-logged : goal.returns-clause-logged
+returns-clause-logged g c =
+    finish_stays g.S.Dir.tells g.S.Site.gives c.args.conf.now (g.S.Site.seen c.args.site.now) (g.S.Site.seen c.new_vector.new.site) (g.S.Site.seen c.announce.new.site) (g.S.Site.given c.args.site.now) (g.S.Site.given c.new_vector.new.site) (g.S.Site.given c.announce.new.site) (g.S.Dir.told c.new_vector.new.site) (g.S.Dir.told c.announce.new.site) (rank_from c.args.k) (rank_after c.args.k) (λ tells. steps_on (g.S.Dir.told c.new_vector.new.site) (g.S.Dir.told c.announce.new.site) (c.announce.ensures.stays tells)) c.in_ok-changed.ensures.logged c.announce.ensures.seen c.announce.ensures.given
+
+pub returns-in_err-changed-clause-answers : goal.returns-in_err-changed-clause-answers
+returns-in_err-changed-clause-answers g c =
+    answer_err ℕ (gained (g.S.Site.seen c.args.site.now).log (g.S.Site.seen c.new_vector.new.site).log) c.from_residual.result (c.in_err-changed.field-0.0) c.from_residual.ensures.1 (c.in_err-changed.ensures.answers)
+
+pub returns-in_err-announce-clause-answers : goal.returns-in_err-announce-clause-answers
+returns-in_err-announce-clause-answers g c =
+    answer_err ℕ (gained (g.S.Site.seen c.args.site.now).log (g.S.Site.seen c.announce.new.site).log) c.from_residual-in_err-announce.result (c.in_err-announce.field-0.0) c.from_residual-in_err-announce.ensures.1 (stays_stop (g.S.Site.seen c.args.site.now) (g.S.Site.seen c.new_vector.new.site) (g.S.Site.seen c.announce.new.site) c.in_err-announce.field-0.0 c.announce.ensures.seen c.in_err-announce.ensures.no_task c.in_ok-changed.ensures.answers)
+
+pub returns-clause-answers : goal.returns-clause-answers
+returns-clause-answers g c =
+    stays_done (g.S.Site.seen c.args.site.now) (g.S.Site.seen c.new_vector.new.site) (g.S.Site.seen c.announce.new.site) c.announce.ensures.seen c.in_ok-changed.ensures.answers

@@ -1,9 +1,15 @@
-use Rattle.std.proofs.Common.{[], List, subst}
+use Rattle.std.specs.Prelude.{Ok, Err}
+use Rattle.job.specs.Whole.{plan_of}
+use Rattle.mining.specs.Stops.{no_memory, of_job}
+use Rattle.mining.proofs.Failures.{answer_err, quiet_stop, begun_stop, begun_done, job_names, job_none, job_stop}
+use Rattle.job.specs.Failing.{gained}
+use Rattle.mining.proofs.JobsAdded.{none_gain, job_gains, job_finishes, steps_on}
+use Rattle.std.proofs.Common.{[], List, subst, refl, arith, ◌+◌}
 use Rattle.std.specs.List.{All}
 use Rattle.peg_base.specs.Names.{Names}
 use Rattle.dir_disk.specs.Calls.{HasFile}
 use Rattle.dir_disk.specs.Moments.{Told, files}
-use Rattle.mining.specs.Places.{folder_of}
+use Rattle.mining.specs.Places.{folder_of, rank_of}
 use Rattle.mining.specs.Making.{parts_from}
 use Rattle.mining.proofs.Looks.{same_after}
 use Rattle.mining.proofs.MakeLemmas.{in_limits, can_begin, looks_make, made_steps, made_finished}
@@ -50,3 +56,39 @@ returns-clause-finished g c =
     let e : Told = g.S.Dir.told c.check_parts.new.dir in
     let there : All (HasFile (files d)) c.in_ok-spec.spec.inputs.items = subst (λ (paths : List Names). All (HasFile (files d)) paths) c.deref.ensures.value (c.in_ok-check_parts.ensures.there tells) in
     made_finished c.args.conf.now c.args.last c.args.place c.in_ok-spec.spec c.requires.limits c.requires.last c.requires.is_there c.in_ok-spec.ensures g.S.Site.gives d e (g.S.Dir.told c.run_job.new.site) (c.check_parts.ensures.stands tells) (c.requires.unmarked tells) there (c.in_ok-run_job.ensures.finished tells)
+
+pub returns-in_err-spec-clause-log : goal.returns-in_err-spec-clause-log
+returns-in_err-spec-clause-log g c =
+    λ made. none_gain g.S.Dir.tells g.S.Site.gives c.args.conf.now (rank_of c.args.place) (rank_of c.args.place + 1) (g.S.Site.seen c.args.site.now) (g.S.Site.seen c.args.site.now) (g.S.Site.given c.args.site.now) (g.S.Site.given c.args.site.now) (g.S.Dir.told c.args.site.now) (omega arith) refl (λ _. refl)
+
+pub returns-in_err-check_parts-clause-log : goal.returns-in_err-check_parts-clause-log
+returns-in_err-check_parts-clause-log g c =
+    λ made. let beside = (g.met.S.Site.beside_dir c.check_parts.new.dir c.args.site.now c.check_parts.ensures.beside) in none_gain g.S.Dir.tells g.S.Site.gives c.args.conf.now (rank_of c.args.place) (rank_of c.args.place + 1) (g.S.Site.seen c.args.site.now) (g.S.Site.seen c.check_parts.new.dir) (g.S.Site.given c.args.site.now) (g.S.Site.given c.check_parts.new.dir) (g.S.Dir.told c.check_parts.new.dir) (omega arith) beside.0 beside.1
+
+pub returns-in_err-run_job-clause-log : goal.returns-in_err-run_job-clause-log
+returns-in_err-run_job-clause-log g c =
+    λ made. let beside = (g.met.S.Site.beside_dir c.check_parts.new.dir c.args.site.now c.check_parts.ensures.beside) in job_gains g.S.Dir.tells g.S.Site.gives c.args.conf.now c.args.last c.args.place c.in_ok-spec.spec c.in_ok-spec.ensures c.requires.is_there c.requires.job made (g.S.Site.seen c.args.site.now) (g.S.Site.seen c.check_parts.new.dir) (g.S.Site.seen c.run_job.new.site) (g.S.Site.given c.args.site.now) (g.S.Site.given c.check_parts.new.dir) (g.S.Site.given c.run_job.new.site) (g.S.Dir.told c.check_parts.new.dir) (g.S.Dir.told c.run_job.new.site) (λ tells. steps_on (g.S.Dir.told c.check_parts.new.dir) (g.S.Dir.told c.run_job.new.site) (c.run_job.ensures.steps tells)) beside.0 beside.1 c.run_job.result c.run_job.ensures.log
+
+pub returns-clause-log : goal.returns-clause-log
+returns-clause-log g c =
+    λ made. let beside = (g.met.S.Site.beside_dir c.check_parts.new.dir c.args.site.now c.check_parts.ensures.beside) in job_gains g.S.Dir.tells g.S.Site.gives c.args.conf.now c.args.last c.args.place c.in_ok-spec.spec c.in_ok-spec.ensures c.requires.is_there c.requires.job made (g.S.Site.seen c.args.site.now) (g.S.Site.seen c.check_parts.new.dir) (g.S.Site.seen c.run_job.new.site) (g.S.Site.given c.args.site.now) (g.S.Site.given c.check_parts.new.dir) (g.S.Site.given c.run_job.new.site) (g.S.Dir.told c.check_parts.new.dir) (g.S.Dir.told c.run_job.new.site) (λ tells. steps_on (g.S.Dir.told c.check_parts.new.dir) (g.S.Dir.told c.run_job.new.site) (c.run_job.ensures.steps tells)) beside.0 beside.1 c.run_job.result c.run_job.ensures.log
+
+pub returns-clause-logged : goal.returns-clause-logged
+returns-clause-logged g c =
+    λ made. let beside = (g.met.S.Site.beside_dir c.check_parts.new.dir c.args.site.now c.check_parts.ensures.beside) in job_finishes g.S.Dir.tells g.S.Site.gives c.args.conf.now c.args.last c.args.place c.in_ok-spec.spec c.in_ok-spec.ensures c.requires.is_there c.requires.job made (g.S.Site.seen c.args.site.now) (g.S.Site.seen c.check_parts.new.dir) (g.S.Site.seen c.run_job.new.site) (g.S.Site.given c.args.site.now) (g.S.Site.given c.check_parts.new.dir) (g.S.Site.given c.run_job.new.site) (g.S.Dir.told c.check_parts.new.dir) (g.S.Dir.told c.run_job.new.site) (λ tells. steps_on (g.S.Dir.told c.check_parts.new.dir) (g.S.Dir.told c.run_job.new.site) (c.run_job.ensures.steps tells)) beside.0 beside.1 c.in_ok-run_job.field-0 c.in_ok-run_job.ensures.log
+
+pub returns-in_err-spec-clause-answers : goal.returns-in_err-spec-clause-answers
+returns-in_err-spec-clause-answers g c =
+    answer_err (Unit {0}) (gained (g.S.Site.seen c.args.site.now).log (g.S.Site.seen c.args.site.now).log) c.from_residual.result (no_memory) c.from_residual.ensures.1 (quiet_stop (g.S.Site.seen c.args.site.now) (g.S.Site.seen c.args.site.now) no_memory refl tt)
+
+pub returns-in_err-check_parts-clause-answers : goal.returns-in_err-check_parts-clause-answers
+returns-in_err-check_parts-clause-answers g c =
+    answer_err (Unit {0}) (gained (g.S.Site.seen c.args.site.now).log (g.S.Site.seen c.check_parts.new.dir).log) c.from_residual-in_err-check_parts.result (c.in_err-check_parts.field-0.0) c.from_residual-in_err-check_parts.ensures.1 (quiet_stop (g.S.Site.seen c.args.site.now) (g.S.Site.seen c.check_parts.new.dir) c.in_err-check_parts.field-0.0 (g.met.S.Site.beside_dir c.check_parts.new.dir c.args.site.now c.check_parts.ensures.beside).0 c.in_err-check_parts.ensures.no_task)
+
+pub returns-in_err-run_job-clause-answers : goal.returns-in_err-run_job-clause-answers
+returns-in_err-run_job-clause-answers g c =
+    answer_err (Unit {0}) (gained (g.S.Site.seen c.args.site.now).log (g.S.Site.seen c.run_job.new.site).log) c.from_residual-in_err-run_job.result (of_job c.in_err-run_job.field-0.0) c.from_residual-in_err-run_job.ensures.1 (begun_stop (g.S.Site.seen c.args.site.now) (g.S.Site.seen c.check_parts.new.dir) (g.S.Site.seen c.run_job.new.site) (of_job c.in_err-run_job.field-0.0) (g.met.S.Site.beside_dir c.check_parts.new.dir c.args.site.now c.check_parts.ensures.beside).0 (job_stop c.in_ok-spec.spec.folder (gained (g.S.Site.seen c.check_parts.new.dir).log (g.S.Site.seen c.run_job.new.site).log) (job_names g.S.Dir.tells g.S.Site.gives c.in_ok-spec.spec.folder (plan_of c.in_ok-spec.spec (files (g.S.Dir.told c.check_parts.new.dir))) c.in_ok-spec.spec.slots (g.S.Site.seen c.check_parts.new.dir) (g.S.Site.seen c.run_job.new.site) (g.S.Site.given c.check_parts.new.dir) (g.S.Site.given c.run_job.new.site) (g.S.Dir.told c.run_job.new.site) c.run_job.result c.run_job.ensures.log) c.in_err-run_job.field-0.0 c.in_err-run_job.ensures.tells))
+
+pub returns-clause-answers : goal.returns-clause-answers
+returns-clause-answers g c =
+    begun_done (g.S.Site.seen c.args.site.now) (g.S.Site.seen c.check_parts.new.dir) (g.S.Site.seen c.run_job.new.site) (g.met.S.Site.beside_dir c.check_parts.new.dir c.args.site.now c.check_parts.ensures.beside).0 (job_none c.in_ok-spec.spec.folder (gained (g.S.Site.seen c.check_parts.new.dir).log (g.S.Site.seen c.run_job.new.site).log) (job_names g.S.Dir.tells g.S.Site.gives c.in_ok-spec.spec.folder (plan_of c.in_ok-spec.spec (files (g.S.Dir.told c.check_parts.new.dir))) c.in_ok-spec.spec.slots (g.S.Site.seen c.check_parts.new.dir) (g.S.Site.seen c.run_job.new.site) (g.S.Site.given c.check_parts.new.dir) (g.S.Site.given c.run_job.new.site) (g.S.Dir.told c.run_job.new.site) c.run_job.result c.run_job.ensures.log) c.in_ok-run_job.field-0 c.in_ok-run_job.ensures.tells)

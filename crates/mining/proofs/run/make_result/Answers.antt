@@ -1,3 +1,8 @@
+use Rattle.mining.proofs.JobsAdded.{gain_within, finish_within, if_done, rank_results}
+use Rattle.mining.specs.Jobs.{FinishesWithin, rank_of_end, rank_behind}
+use Rattle.mining.specs.Places.{rank_of}
+use Rattle.mining.specs.declared.place.Place.TheVariants.{Results}
+use Rattle.std.proofs.Common.{refl, arith, ◌+◌}
 use Rattle.dir_disk.specs.State.{IsSound}
 use Rattle.dir_disk.specs.Moments.{Told, files}
 use Rattle.mining.specs.Flow.{Mining, mining_of}
@@ -11,3 +16,11 @@ returns-clause-kept g c =
     let d : Told = g.S.Dir.told c.args.site.now in
     let sound : IsSound (files d) = λ q. g.met.S.Dir.now_allowed c.args.site.now q tells in
     c.ensure_folder.ensures.kept edges tells kept (due_results mining c.args.last (files d) sound kept c.requires.few last form sure) (read_results mining c.args.last (files d) sound kept c.requires.few last form sure)
+
+pub returns-clause-log : goal.returns-clause-log
+returns-clause-log g c =
+    let r = rank_results in gain_within g.S.Dir.tells g.S.Site.gives c.args.conf.now rank_of_end (rank_of Results) (rank_of Results + 1) rank_behind (g.S.Site.seen c.args.site.now) (g.S.Site.seen c.ensure_folder.new.site) (g.S.Site.given c.args.site.now) (g.S.Site.given c.ensure_folder.new.site) (g.S.Dir.told c.ensure_folder.new.site) (omega (arith, r)) (omega (arith, r)) (c.ensure_folder.ensures.log refl)
+
+pub returns-clause-logged : goal.returns-clause-logged
+returns-clause-logged g c =
+    let r = rank_results in if_done (FinishesWithin g.S.Dir.tells g.S.Site.gives c.args.conf.now (rank_of Results) (rank_of Results + 1) (g.S.Site.seen c.args.site.now) (g.S.Site.seen c.ensure_folder.new.site) (g.S.Site.given c.args.site.now) (g.S.Site.given c.ensure_folder.new.site) (g.S.Dir.told c.ensure_folder.new.site)) (FinishesWithin g.S.Dir.tells g.S.Site.gives c.args.conf.now rank_of_end rank_behind (g.S.Site.seen c.args.site.now) (g.S.Site.seen c.ensure_folder.new.site) (g.S.Site.given c.args.site.now) (g.S.Site.given c.ensure_folder.new.site) (g.S.Dir.told c.ensure_folder.new.site)) c.ensure_folder.result (λ done. finish_within g.S.Dir.tells g.S.Site.gives c.args.conf.now rank_of_end (rank_of Results) (rank_of Results + 1) rank_behind (g.S.Site.seen c.args.site.now) (g.S.Site.seen c.ensure_folder.new.site) (g.S.Site.given c.args.site.now) (g.S.Site.given c.ensure_folder.new.site) (g.S.Dir.told c.ensure_folder.new.site) (omega (arith, r)) (omega (arith, r)) done) (c.ensure_folder.ensures.logged refl)

@@ -1,3 +1,6 @@
+use Rattle.mining.specs.Failures.{NoneFailed}
+use Rattle.job.specs.Failing.{gained}
+use Rattle.mining.specs.Jobs.{FinishesWithin, rank_after}
 use Rattle.std.proofs.Common.{◌≡◌, ◌-◌, ◌≤◌, List, []}
 use Rattle.dir_disk.specs.Moments.{Both, EachImage, Through, Told, files}
 use Rattle.dir_disk.specs.Says.{Say}
@@ -22,6 +25,8 @@ invariant-loop-at g l =
       faults : g.S.Dir.faults l.site ≡ g.S.Dir.faults l.fn.site;
       say_faults : g.S.Console.say_faults l.site ≡ g.S.Console.say_faults l.fn.site;
       none_running : (g.S.Site.seen l.site).running ≡ [];
+      answers : NoneFailed (gained (g.S.Site.seen l.fn.site).log (g.S.Site.seen l.site).log);
+      log : FinishesWithin g.S.Dir.tells g.S.Site.gives l.fn.conf (rank_after l.fn.from.k) (rank_after l.at.k) (g.S.Site.seen l.fn.site) (g.S.Site.seen l.site) (g.S.Site.given l.fn.site) (g.S.Site.given l.site) new;
       firm : g.S.Dir.tells → AllFirm (files new);
       sure : g.S.Dir.tells → IsSure (Vector l.at.k) (files new);
       stays : g.S.Dir.tells → Through (Both (KeepsWhole (files old))) old new;

@@ -28,3 +28,11 @@ returns-in_err-say-clause-faults g c = (g.met.S.Site.beside_console c.say.new.se
 
 pub returns-clause-faults : goal.returns-clause-faults
 returns-clause-faults g c = (g.met.S.Site.beside_console c.say.new.self c.args.site.now c.say.ensures.beside).3
+
+pub returns-in_err-say-clause-given : goal.returns-in_err-say-clause-given
+returns-in_err-say-clause-given g c =
+    λ tells. ((g.met.S.Site.beside_console c.say.new.self c.args.site.now c.say.ensures.beside).1 tells).0
+
+pub returns-clause-given : goal.returns-clause-given
+returns-clause-given g c =
+    λ tells. ((g.met.S.Site.beside_console c.say.new.self c.args.site.now c.say.ensures.beside).1 tells).0
