@@ -10,3 +10,6 @@ pub mod TakenUp
 pub mod Finished
 pub mod Starting
 pub mod WordLemmas
+pub mod Headline
+pub mod Causes
+pub mod CausesUnmade

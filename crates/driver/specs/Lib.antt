@@ -4,3 +4,5 @@ pub mod Plain
 pub mod Words
 pub mod Running
 pub mod Opening
+pub mod Headline
+pub mod Causes

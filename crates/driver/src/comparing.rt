@@ -1,4 +1,4 @@
-ghost use Rattle.std.specs.Prelude.{◌≡◌, true, [], ◌<◌, IfSome, IsErrOf, OnOk, length, IfErr};
+ghost use Rattle.std.specs.Prelude.{◌≡◌, true, [], ◌<◌, IfSome, IsSome, Some, IsErrOf, OnOk, length, IfErr};
 ghost use Rattle.dir_disk.specs.Causes.{HasCause};
 ghost use Rattle.dir_disk.specs.Moments.{Both, Through, files};
 ghost use Rattle.dir_disk.specs.Streams.{AtEnd};
@@ -7,7 +7,8 @@ ghost use Rattle.conf.specs.Commands.{is_mining};
 ghost use Rattle.conf.specs.Texts.{text_of};
 ghost use Rattle.mining.specs.declared.place.Place.TheVariants as At;
 ghost use Rattle.mining.specs.Places.{folder_of};
-ghost use Rattle.driver.specs.Opening.{IsJudgedJob};
+ghost use Rattle.driver.specs.Opening.{IsJudgedJob, mark_of};
+ghost use Rattle.driver.specs.Causes.{IsOpened, found_in, outcome_of};
 
 use committer::part_path;
 use conf::{Conf, conf_text};
@@ -21,6 +22,8 @@ use store::{check_edges, compare_text, missing_part};
 fn check_text<S: Site>(alloc: Global, site: &mut S, path: &Path, text: &[u8]) -> Result<(), Stop>
     requires none_running { (S.seen site.old).running ≡ [] }
     ensures none_running { (S.seen site.new).running ≡ [] }
+    ensures seen { S.seen site.new ≡ S.seen site.old }
+    ensures given { S.tells → S.given site.new ≡ S.given site.old }
     ensures stands { S.tells
         → Through (Both (λ state. state ≡ files (S.told site.old))) (S.told site.old) (S.told site.new) }
     ensures judged { S.tells → IsJudgedJob (files (S.told site.old) path.now).now text.now result }
@@ -42,6 +45,8 @@ pub fn check_conf<S: Site>(alloc: Global, site: &mut S, conf: &Conf) -> Result<(
     requires mines { is_mining conf.now.command ≡ true }
     requires none_running { (S.seen site.old).running ≡ [] }
     ensures none_running { (S.seen site.new).running ≡ [] }
+    ensures seen { S.seen site.new ≡ S.seen site.old }
+    ensures given { S.tells → S.given site.new ≡ S.given site.old }
     ensures stands { S.tells
         → Through (Both (λ state. state ≡ files (S.told site.old))) (S.told site.old) (S.told site.new) }
     ensures judged { S.tells
@@ -68,8 +73,13 @@ pub fn check_source<E: Source, S: Site>(
 ) -> Result<(), Stop>
     requires none_running { (S.seen site.old).running ≡ [] }
     ensures none_running { (S.seen site.new).running ≡ [] }
+    ensures seen { S.seen site.new ≡ S.seen site.old }
+    ensures given { S.tells → S.given site.new ≡ S.given site.old }
     ensures stands { S.tells
         → Through (Both (λ state. state ≡ files (S.told site.old))) (S.told site.old) (S.told site.new) }
+    ensures opened { IfSome (E.left edges.old) (λ bytes. let found = found_in (files (S.told site.old)) in S.tells
+        → IsSome found.mark → found.conf ≡ Some (text_of conf.now)
+        → IsOpened conf.now (files (S.told site.old)) bytes (outcome_of result)) }
     ensures end { OnOk result (AtEnd (E.left edges.new)) }
     ensures said { S.said site.new ≡ S.said site.old }
     ensures says { S.says site.new ≡ S.says site.old }
@@ -97,8 +107,12 @@ pub fn check_job<E: Source, S: Site>(
     requires mines { is_mining conf.now.command ≡ true }
     requires none_running { (S.seen site.old).running ≡ [] }
     ensures none_running { (S.seen site.new).running ≡ [] }
+    ensures seen { S.seen site.new ≡ S.seen site.old }
+    ensures given { S.tells → S.given site.new ≡ S.given site.old }
     ensures stands { S.tells
         → Through (Both (λ state. state ≡ files (S.told site.old))) (S.told site.old) (S.told site.new) }
+    ensures opened { IfSome (E.left edges.old) (λ bytes. S.tells → IsSome (mark_of At.Edges (files (S.told site.old)))
+        → IsOpened conf.now (files (S.told site.old)) bytes (outcome_of result)) }
     ensures end { OnOk result (AtEnd (E.left edges.new)) }
     ensures said { S.said site.new ≡ S.said site.old }
     ensures says { S.says site.new ≡ S.says site.old }

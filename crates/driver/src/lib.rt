@@ -1,6 +1,7 @@
 //! The commands of the program, from their words and edges to the folders that they leave and the lines that they say.
 #![tactic(auto)]
 
+mod commands;
 mod comparing;
 mod first;
 mod lines;
@@ -13,9 +14,7 @@ mod reading;
 mod resume;
 mod running;
 mod settle;
-#[cfg(test)]
-mod tests;
 
+pub use commands::run;
 pub use outcome::Outcome;
 pub use plain::run_plain;
-pub use running::run;

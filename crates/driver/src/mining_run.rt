@@ -17,6 +17,7 @@ ghost use Rattle.mining.specs.Iterations.{console};
 ghost use Rattle.mining.specs.Kept.{AllKept, Kept};
 ghost use Rattle.driver.specs.Opening.{HasRun, HasVectors, IsFrom, IsFromThere, KeepsFinished, StandsLater, StaysOne};
 ghost use Rattle.mining.specs.Stops.{IsOfMining};
+ghost use Rattle.driver.specs.Causes.{IsOpened, IsRefusal, MakesNone, outcome_of};
 
 use crate::first::make_base;
 use crate::opening::take_job;
@@ -44,6 +45,11 @@ fn make_ready<E: Source, S: Site>(
     ensures kept { IfSome (E.left edges.old) (λ bytes. let mining = mining_of S.gives conf.now (edges_of conf.now.nodes bytes).edges in S.tells
         → AllKept mining (files (S.told site.old)) → conf.now.form ≡ Base
         → Through (EachImage (Kept mining)) (S.told site.old) (S.told site.new)) }
+    ensures opened { IfSome (E.left edges.old)
+        (λ bytes. S.tells → IsOpened conf.now (files (S.told site.old)) bytes (outcome_of result)) }
+    ensures unmade { S.tells → IsRefusal (outcome_of result)
+        → MakesNone (files (S.told site.old)) (files (S.told site.new)) }
+    ensures unstarted { IsRefusal (outcome_of result) → S.seen site.new ≡ S.seen site.old }
     ensures end { OnOk result (AtEnd (E.left edges.new)) }
     ensures later { S.tells → StandsLater (files (S.told site.old)) (files (S.told site.new)) }
     ensures said { S.said site.new ≡ S.said site.old }
@@ -118,6 +124,11 @@ fn mine_settled<E: Source, S: Site>(
         (k : Option ℕ) (l : ℕ) → S.tells → AllKept mining (files (S.told site.old)) → conf.now.form ≡ Base
         → IsFrom (most_of conf.now conf.now.command) (files (S.told site.old)) k → last_of mining ≡ Some l
         → AddsPart (S.said site.old) (S.said site.new) (console mining k l)) }
+    ensures opened { IfSome (E.left edges.old)
+        (λ bytes. S.tells → IsOpened conf.now (files (S.told site.old)) bytes (outcome_of result)) }
+    ensures unmade { S.tells → IsRefusal (outcome_of result)
+        → MakesNone (files (S.told site.old)) (files (S.told site.new)) }
+    ensures unstarted { IsRefusal (outcome_of result) → S.seen site.new ≡ S.seen site.old }
     ensures end { OnOk result (AtEnd (E.left edges.new)) }
     ensures cause { HasCause Stop.Disk (S.faults site.old) (S.faults site.new) result }
     ensures say_cause { HasCause Stop.Say (S.say_faults site.old) (S.say_faults site.new) result }
@@ -160,6 +171,12 @@ pub fn mine<E: Source, S: Site>(
         (k : Option ℕ) (l : ℕ) → S.tells → AllKept mining (files (S.told site.old)) → conf.now.form ≡ Base
         → IsFrom (most_of conf.now conf.now.command) (files (S.told site.old)) k → last_of mining ≡ Some l
         → AddsPart (S.said site.old) (S.said site.new) (console mining k l)) }
+    // Each refusal of the opening has its cause, and what comes later has none of them.
+    ensures opened { IfSome (E.left edges.old)
+        (λ bytes. S.tells → IsOpened conf.now (files (S.told site.old)) bytes (outcome_of result)) }
+    ensures unmade { S.tells → IsRefusal (outcome_of result)
+        → MakesNone (files (S.told site.old)) (files (S.told site.new)) }
+    ensures unstarted { IsRefusal (outcome_of result) → S.seen site.new ≡ S.seen site.old }
     // At Ok the source was read to its end.
     ensures end { OnOk result (AtEnd (E.left edges.new)) }
     // Each fault has its cause.

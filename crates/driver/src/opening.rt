@@ -1,4 +1,4 @@
-ghost use Rattle.std.specs.Prelude.{◌≡◌, true, [], ◌∷◌, Some, IfSome, OnOk, IsErrOf, IfErr};
+ghost use Rattle.std.specs.Prelude.{◌≡◌, true, [], ◌∷◌, None, Some, IfSome, OnOk, IsErrOf, IfErr};
 ghost use Rattle.dir_disk.specs.Causes.{HasCause};
 ghost use Rattle.dir_disk.specs.Moments.{Both, EachImage, Through, files};
 ghost use Rattle.dir_disk.specs.State.{StandsOutside};
@@ -15,7 +15,10 @@ ghost use Rattle.mining.specs.Flow.{mining_of};
 ghost use Rattle.mining.specs.Kept.{AllKept, Kept};
 ghost use Rattle.store.specs.Sealed.{IsMade, Makes};
 ghost use Rattle.driver.specs.Opening.{KeepsFinished, StandsLater};
-ghost use Rattle.mining.specs.Stops.{IsOfJobs};
+ghost use Rattle.mining.specs.Stops.{IsOfDisk, IsOfJobs};
+ghost use Rattle.driver.specs.Causes.{IsOpened, IsRefusal, MakesNone, outcome_of};
+ghost use Rattle.driver.specs.Opening.{mark_of};
+ghost use Rattle.dir_disk.specs.State.{State};
 
 use crate::comparing::check_job;
 use committer::drop_folder;
@@ -31,6 +34,8 @@ fn write_conf<S: Site>(alloc: Global, site: &mut S, folder: &Path, text: &[u8]) 
     requires folder { folder.now ≡ folder_of At.Conf }
     requires none_running { (S.seen site.old).running ≡ [] }
     ensures none_running { (S.seen site.new).running ≡ [] }
+    ensures seen { S.seen site.new ≡ S.seen site.old }
+    ensures given { S.tells → S.given site.new ≡ S.given site.old }
     ensures outside { S.tells
         → Through (Both (StandsOutside (folder_of At.Conf) (files (S.told site.old)))) (S.told site.old) (S.told site.new) }
     ensures made { S.tells → OnOk result (IsMade (folder_of At.Conf) text.now (files (S.told site.new))) }
@@ -39,6 +44,7 @@ fn write_conf<S: Site>(alloc: Global, site: &mut S, folder: &Path, text: &[u8]) 
     ensures say_faults { S.say_faults site.new ≡ S.say_faults site.old }
     ensures cause { HasCause Stop.Disk (S.faults site.old) (S.faults site.new) result }
     ensures err { IfErr result IsOfJobs }
+    ensures of_disk { IfErr result IsOfDisk }
 {
     drop_folder(alloc, site, folder)?;
     write_text(alloc, site, folder, text)?;
@@ -50,6 +56,8 @@ fn make_conf<S: Site>(alloc: Global, site: &mut S, conf: &Conf) -> Result<(), St
     requires mines { is_mining conf.now.command ≡ true }
     requires none_running { (S.seen site.old).running ≡ [] }
     ensures none_running { (S.seen site.new).running ≡ [] }
+    ensures seen { S.seen site.new ≡ S.seen site.old }
+    ensures given { S.tells → S.given site.new ≡ S.given site.old }
     ensures outside { S.tells
         → Through (Both (StandsOutside (folder_of At.Conf) (files (S.told site.old)))) (S.told site.old) (S.told site.new) }
     ensures made { S.tells
@@ -59,6 +67,7 @@ fn make_conf<S: Site>(alloc: Global, site: &mut S, conf: &Conf) -> Result<(), St
     ensures say_faults { S.say_faults site.new ≡ S.say_faults site.old }
     ensures cause { HasCause Stop.Disk (S.faults site.old) (S.faults site.new) result }
     ensures err { IfErr result IsOfJobs }
+    ensures of_disk { IfErr result IsOfDisk }
 {
     let folder = Place::Conf.path(alloc)?;
     let text = conf_text(alloc, conf)?;
@@ -75,6 +84,8 @@ fn make_edges<E: Source, S: Site>(
     requires none_running { (S.seen site.old).running ≡ [] }
     requires unmarked { S.tells → IsUnmarked (folder_of At.Edges) (files (S.told site.old)) }
     ensures none_running { (S.seen site.new).running ≡ [] }
+    ensures seen { S.seen site.new ≡ S.seen site.old }
+    ensures given { S.tells → S.given site.new ≡ S.given site.old }
     ensures made { S.tells → IfSome (E.left edges.old)
         (λ bytes. OnOk result (IsMade (folder_of At.Edges) (edges_text (edges_of conf.now.nodes bytes).edges) (files (S.told site.new)))) }
     ensures steps { S.tells → IfSome (E.left edges.old)
@@ -84,6 +95,10 @@ fn make_edges<E: Source, S: Site>(
         → Through (Both (StandsOutside (folder_of At.Edges) (files (S.told site.old)))) (S.told site.old) (S.told site.new) }
     ensures whole { S.tells
         → OnOk result (files (S.told site.new) (success_of (folder_of At.Edges)) ≡ fixed (Some [])) }
+    ensures opened { IfSome (E.left edges.old) (λ bytes. (state : State) → mark_of At.Edges state ≡ None
+        → IsOpened conf.now state bytes (outcome_of result)) }
+    ensures unmade { S.tells → IsRefusal (outcome_of result)
+        → IsUnmarked (folder_of At.Edges) (files (S.told site.new)) }
     ensures end { OnOk result (AtEnd (E.left edges.new)) }
     ensures said { S.said site.new ≡ S.said site.old }
     ensures says { S.says site.new ≡ S.says site.old }
@@ -109,11 +124,17 @@ fn begin_job<E: Source, S: Site>(
     requires firm { S.tells → AllFirm (files (S.told site.old)) }
     requires unmarked { S.tells → IsUnmarked (folder_of At.Edges) (files (S.told site.old)) }
     ensures none_running { (S.seen site.new).running ≡ [] }
+    ensures seen { S.seen site.new ≡ S.seen site.old }
+    ensures given { S.tells → S.given site.new ≡ S.given site.old }
     ensures firm { S.tells → OnOk result (AllFirm (files (S.told site.new))) }
     ensures sure { S.tells → OnOk result (IsSure At.Edges (files (S.told site.new))) }
     ensures kept { IfSome (E.left edges.old) (λ bytes. let mining = mining_of S.gives conf.now (edges_of conf.now.nodes bytes).edges in S.tells
         → AllKept mining (files (S.told site.old))
         → Through (EachImage (Kept mining)) (S.told site.old) (S.told site.new)) }
+    ensures opened { IfSome (E.left edges.old)
+        (λ bytes. S.tells → IsOpened conf.now (files (S.told site.old)) bytes (outcome_of result)) }
+    ensures unmade { S.tells → IsRefusal (outcome_of result)
+        → MakesNone (files (S.told site.old)) (files (S.told site.new)) }
     ensures end { OnOk result (AtEnd (E.left edges.new)) }
     ensures later { S.tells → StandsLater (files (S.told site.old)) (files (S.told site.new)) }
     ensures said { S.said site.new ≡ S.said site.old }
@@ -140,11 +161,17 @@ pub fn take_job<E: Source, S: Site>(
     requires none_running { (S.seen site.old).running ≡ [] }
     requires firm { S.tells → AllFirm (files (S.told site.old)) }
     ensures none_running { (S.seen site.new).running ≡ [] }
+    ensures seen { S.seen site.new ≡ S.seen site.old }
+    ensures given { S.tells → S.given site.new ≡ S.given site.old }
     ensures firm { S.tells → OnOk result (AllFirm (files (S.told site.new))) }
     ensures sure { S.tells → OnOk result (IsSure At.Edges (files (S.told site.new))) }
     ensures kept { IfSome (E.left edges.old) (λ bytes. let mining = mining_of S.gives conf.now (edges_of conf.now.nodes bytes).edges in S.tells
         → AllKept mining (files (S.told site.old))
         → Through (EachImage (Kept mining)) (S.told site.old) (S.told site.new)) }
+    ensures opened { IfSome (E.left edges.old)
+        (λ bytes. S.tells → IsOpened conf.now (files (S.told site.old)) bytes (outcome_of result)) }
+    ensures unmade { S.tells → IsRefusal (outcome_of result)
+        → MakesNone (files (S.told site.old)) (files (S.told site.new)) }
     ensures end { OnOk result (AtEnd (E.left edges.new)) }
     ensures later { S.tells → StandsLater (files (S.told site.old)) (files (S.told site.new)) }
     ensures said { S.said site.new ≡ S.said site.old }

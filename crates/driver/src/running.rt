@@ -19,6 +19,7 @@ ghost use Rattle.mining.specs.Kept.{AllKept, Kept};
 ghost use Rattle.driver.specs.Opening.{HasRun, HasVectors, IsFrom, StaysOne};
 ghost use Rattle.driver.specs.Plain.{Labels};
 ghost use Rattle.driver.specs.Running.{IsUnmade, bytes_for};
+ghost use Rattle.driver.specs.Causes.{IsOpened, IsRefusal, MakesNone};
 
 use crate::Outcome;
 use crate::mining_run::mine;
@@ -52,6 +53,10 @@ fn run_mining<E: Source, S: Site>(
     requires none_running { (S.seen site.old).running ≡ [] }
     ensures none_running { (S.seen site.new).running ≡ [] }
     ensures no_usage { (word : ℕ) → result ≢ Outcome.Usage word }
+    ensures opened { IfSome (E.left edges.old)
+        (λ bytes. S.tells → IsOpened conf.now (files (S.told site.old)) bytes result) }
+    ensures unmade { S.tells → IsRefusal result → MakesNone (files (S.told site.old)) (files (S.told site.new)) }
+    ensures unstarted { IsRefusal result → S.seen site.new ≡ S.seen site.old }
     ensures end { result ≡ Outcome.Done → AtEnd (E.left edges.new) }
     ensures disk { result ≡ Outcome.DiskFault → Rose (S.faults site.old) (S.faults site.new) }
     ensures read { result ≡ Outcome.ReadFault → Rose (E.faults edges.old) (E.faults edges.new) }
@@ -93,6 +98,10 @@ fn run_over<E: Source, S: Site>(alloc: Global, conf: &Conf, edges: &mut E, site:
     ensures no_usage { (word : ℕ) → result ≢ Outcome.Usage word }
     ensures plain { conf.now.command ≡ Plain
         → Labels conf.now.nodes (E.left edges.old) (S.said site.old) (S.said site.new) result }
+    ensures opened { is_mining conf.now.command ≡ true → IfSome (E.left edges.old)
+        (λ bytes. S.tells → IsOpened conf.now (files (S.told site.old)) bytes result) }
+    ensures unmade { S.tells → IsRefusal result → MakesNone (files (S.told site.old)) (files (S.told site.new)) }
+    ensures unstarted { IsRefusal result → S.seen site.new ≡ S.seen site.old }
     ensures end { result ≡ Outcome.Done → AtEnd (E.left edges.new) }
     ensures disk { result ≡ Outcome.DiskFault → Rose (S.faults site.old) (S.faults site.new) }
     ensures read { result ≡ Outcome.ReadFault → Rose (E.faults edges.old) (E.faults edges.new) }
@@ -126,9 +135,8 @@ fn run_over<E: Source, S: Site>(alloc: Global, conf: &Conf, edges: &mut E, site:
     }
 }
 
-/// Carries out what the words ask for, over the edges that the source has left, or over generated ones: `plain` by
-/// itself, and each other command in the work folder of the site. A form other than the base form is refused at its word.
-pub fn run<E: Source, S: Site>(
+/// Carries out what the words ask for; what it says of settings and bytes is said of those that the words have.
+pub fn carry_out<E: Source, S: Site>(
     alloc: Global,
     words: &[String],
     edges: &mut E,
@@ -155,6 +163,13 @@ pub fn run<E: Source, S: Site>(
     // `plain` says the least labels of the edges that the words have read.
     ensures plain { (conf : Settings) → Mean (map string_bytes words.now) conf → conf.command ≡ Plain
         → Labels conf.nodes (bytes_for conf (E.left edges.old)) (S.said site.old) (S.said site.new) result }
+
+    // The settings, the edges and the work folder are refused as they are judged, and else not.
+    ensures opened { (conf : Settings) → Mean (map string_bytes words.now) conf
+        → is_mining conf.command ≡ true → conf.form ≡ Base → IfSome (bytes_for conf (E.left edges.old))
+        (λ bytes. S.tells → IsOpened conf (files (S.told site.old)) bytes result) }
+    ensures unmade { S.tells → IsRefusal result → MakesNone (files (S.told site.old)) (files (S.told site.new)) }
+    ensures unstarted { IsRefusal result → S.seen site.new ≡ S.seen site.old }
 
     // When it is done the source was read to its end; where edges are generated it isn't touched.
     ensures end { (conf : Settings) → Mean (map string_bytes words.now) conf → conf.generated ≡ None

@@ -9,3 +9,4 @@ pub mod Searches
 pub mod Ends
 pub mod Radii
 pub mod ExamplesHold
+pub mod Held

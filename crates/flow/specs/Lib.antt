@@ -1,4 +1,5 @@
 pub mod Children
 pub mod Iterates
 pub mod Laws
+pub mod Held
 pub mod Examples

@@ -1,6 +1,7 @@
 //! Each law is the contract of a function that does nothing.
 ghost use Rattle.flow.specs.Children.{BundledFollow};
 ghost use Rattle.flow.specs.Examples.{ChangesByExample, FlowByExample, LayoutByExample};
+ghost use Rattle.flow.specs.Held.{ConsoleIsOfIterates, KeptHoldsIterates, KeptHoldsResult};
 ghost use Rattle.flow.specs.Iterates.{LastIsOne};
 ghost use Rattle.flow.specs.Laws.{BaseFlow, BaseResult, ChangesAreCounted, ComponentsEnd, FileEdgesAreCountable, FileFlow, FileResult, RadiiEnd, RanksEnd};
 
@@ -28,6 +29,18 @@ pub fn commands_end()
     ensures components { ComponentsEnd }
     ensures ranks { RanksEnd }
     ensures radii { RadiiEnd }
+{}
+
+/// Where the children are the bundled ones, each image that is kept holds whole iterations, each so many steps, and the
+/// result of the last one.
+pub fn kept_holds_iterates()
+    ensures iterates { KeptHoldsIterates }
+    ensures result { KeptHoldsResult }
+{}
+
+/// What the flow has a run say are the counts and the total of the iterates.
+pub fn console_is_of_iterates()
+    ensures { ConsoleIsOfIterates }
 {}
 
 /// The accepted edges of a file are such that a matrix is made of them.

@@ -6,7 +6,38 @@ use Rattle.mining.specs.Flow.{mining_of}
 use Rattle.driver.proofs.Begin.{more_kept}
 use Rattle.dir_disk.specs.Moments.{files}
 use Rattle.driver.proofs.Starting.{later_then}
+use Rattle.driver.specs.Causes.{IsOpened, IsTakenOver, found_in, outcome_of}
+use Rattle.driver.specs.Outcomes.{outcome_of_stop}
+use Rattle.driver.proofs.Begin.{both_told}
+use Rattle.driver.proofs.Causes.{exits_by, then_jobs}
+use Rattle.driver.proofs.CausesUnmade.{no_jobs_refusal, refuses}
+use Rattle.std.proofs.Common.{List, ℕ}
+use Rattle.driver.specs.declared.outcome.Outcome.{Outcome}
 use Rattle.driver.proofs.mining_run.make_ready.Goals as goal
+
+pub returns-in_err-take_job-clause-unstarted : goal.returns-in_err-take_job-clause-unstarted
+returns-in_err-take_job-clause-unstarted g c =
+    λ refusal. c.take_job.ensures.seen
+
+pub returns-clause-unstarted : goal.returns-clause-unstarted
+returns-clause-unstarted g c =
+    λ refusal. absurd (no_jobs_refusal c.make_base.result c.make_base.ensures.err refusal)
+
+pub returns-in_err-take_job-clause-unmade : goal.returns-in_err-take_job-clause-unmade
+returns-in_err-take_job-clause-unmade g c =
+    λ tells refusal. c.in_err-take_job.ensures.unmade tells (refuses c.from_residual.result c.in_err-take_job.field-0.0 c.from_residual.ensures.1 refusal)
+
+pub returns-clause-unmade : goal.returns-clause-unmade
+returns-clause-unmade g c =
+    λ tells refusal. absurd (no_jobs_refusal c.make_base.result c.make_base.ensures.err refusal)
+
+pub returns-in_err-take_job-clause-opened : goal.returns-in_err-take_job-clause-opened
+returns-in_err-take_job-clause-opened g c =
+    exits_by (λ (bytes : List ℕ) (outcome : Outcome). g.S.Dir.tells → IsOpened c.args.conf.now (files (g.S.Dir.told c.args.site.now)) bytes outcome) (λ bytes. g.S.Dir.tells → IsOpened c.args.conf.now (files (g.S.Dir.told c.args.site.now)) bytes (outcome_of_stop c.in_err-take_job.field-0.0)) (g.E.Source.left c.args.edges.now) c.from_residual.result c.in_err-take_job.field-0.0 c.from_residual.ensures.1 (λ bytes opened. opened) c.in_err-take_job.ensures.opened
+
+pub returns-clause-opened : goal.returns-clause-opened
+returns-clause-opened g c =
+    both_told (λ bytes. g.S.Dir.tells → IsTakenOver c.args.conf.now (found_in (files (g.S.Dir.told c.args.site.now))) (edges_of c.args.conf.now.nodes bytes)) (λ bytes. (λ (bytes : List ℕ) (outcome : Outcome). g.S.Dir.tells → IsOpened c.args.conf.now (files (g.S.Dir.told c.args.site.now)) bytes outcome) bytes (outcome_of c.make_base.result)) (g.E.Source.left c.args.edges.now) (λ bytes taken tells. then_jobs c.args.conf.now (found_in (files (g.S.Dir.told c.args.site.now))) (edges_of c.args.conf.now.nodes bytes) c.make_base.result (taken tells) c.make_base.ensures.err) c.in_ok-take_job.ensures.opened
 
 pub returns-clause-kept : goal.returns-clause-kept
 returns-clause-kept g c =

@@ -16,7 +16,36 @@ use Rattle.mining.proofs.EnsureLemmas.{kept_after}
 use Rattle.driver.specs.Opening.{HasRun, IsFrom}
 use Rattle.driver.proofs.Begin.{both_told}
 use Rattle.driver.proofs.Starting.{acks_begun, from_settled, nothing_part, run_vectors, settling_vectors}
+use Rattle.driver.specs.Causes.{IsOpened, found_in, outcome_of}
+use Rattle.driver.proofs.Causes.{exits, of_disk, same_found, settled_found}
+use Rattle.driver.proofs.CausesUnmade.{no_disk_refusal, none_then, refuses, settled_none}
+use Rattle.std.proofs.Common.{List, ℕ}
+use Rattle.driver.specs.declared.outcome.Outcome.{Outcome}
 use Rattle.driver.proofs.mining_run.mine.Goals as goal
+
+pub returns-in_err-settle_all-clause-unstarted : goal.returns-in_err-settle_all-clause-unstarted
+returns-in_err-settle_all-clause-unstarted g c =
+    λ refusal. c.settle_all.ensures.seen
+
+pub returns-clause-unstarted : goal.returns-clause-unstarted
+returns-clause-unstarted g c =
+    λ refusal. c.mine_settled.ensures.unstarted refusal ∙ c.settle_all.ensures.seen
+
+pub returns-in_err-settle_all-clause-unmade : goal.returns-in_err-settle_all-clause-unmade
+returns-in_err-settle_all-clause-unmade g c =
+    λ tells refusal. absurd (no_disk_refusal c.in_err-settle_all.field-0.0 c.in_err-settle_all.ensures.of_disk (refuses c.from_residual.result c.in_err-settle_all.field-0.0 c.from_residual.ensures.1 refusal))
+
+pub returns-clause-unmade : goal.returns-clause-unmade
+returns-clause-unmade g c =
+    λ tells refusal. none_then (files (g.S.Dir.told c.args.site.now)) (files (g.S.Dir.told c.settle_all.new.site)) (files (g.S.Dir.told c.mine_settled.new.site)) (settled_none (files (g.S.Dir.told c.args.site.now)) (files (g.S.Dir.told c.settle_all.new.site)) (λ q. g.met.S.Dir.now_allowed c.args.site.now q tells) (c.in_ok-settle_all.ensures.settled tells)) (c.mine_settled.ensures.unmade tells refusal)
+
+pub returns-in_err-settle_all-clause-opened : goal.returns-in_err-settle_all-clause-opened
+returns-in_err-settle_all-clause-opened g c =
+    exits (λ (bytes : List ℕ) (outcome : Outcome). g.S.Dir.tells → IsOpened c.args.conf.now (files (g.S.Dir.told c.args.site.now)) bytes outcome) (g.E.Source.left c.args.edges.now) c.from_residual.result c.in_err-settle_all.field-0.0 c.from_residual.ensures.1 (λ bytes tells. of_disk c.args.conf.now (found_in (files (g.S.Dir.told c.args.site.now))) (edges_of c.args.conf.now.nodes bytes) c.in_err-settle_all.field-0.0 c.in_err-settle_all.ensures.of_disk)
+
+pub returns-clause-opened : goal.returns-clause-opened
+returns-clause-opened g c =
+    both_told (λ bytes. g.S.Dir.tells → IsOpened c.args.conf.now (files (g.S.Dir.told c.settle_all.new.site)) bytes (outcome_of c.mine_settled.result)) (λ bytes. (λ (bytes : List ℕ) (outcome : Outcome). g.S.Dir.tells → IsOpened c.args.conf.now (files (g.S.Dir.told c.args.site.now)) bytes outcome) bytes (outcome_of c.mine_settled.result)) (g.E.Source.left c.args.edges.now) (λ bytes opened tells. same_found c.args.conf.now (files (g.S.Dir.told c.settle_all.new.site)) (files (g.S.Dir.told c.args.site.now)) bytes (outcome_of c.mine_settled.result) (settled_found (files (g.S.Dir.told c.args.site.now)) (files (g.S.Dir.told c.settle_all.new.site)) (c.in_ok-settle_all.ensures.settled tells)) (opened tells)) c.mine_settled.ensures.opened
 
 pub returns-in_err-settle_all-clause-kept : goal.returns-in_err-settle_all-clause-kept
 returns-in_err-settle_all-clause-kept g c =

@@ -22,7 +22,56 @@ use Rattle.driver.specs.Opening.{HasRun, IsFrom, IsFromThere}
 use Rattle.driver.proofs.Begin.{both_told, if_told}
 use Rattle.driver.proofs.Settling.{same_keeps}
 use Rattle.driver.proofs.Starting.{finished_vectors, from_there, nothing_part}
+use Rattle.driver.specs.Causes.{IsOpened, found_in, outcome_of}
+use Rattle.driver.specs.Outcomes.{outcome_of_stop}
+use Rattle.driver.specs.declared.outcome.Outcome.TheVariants.{Done}
+use Rattle.driver.proofs.Causes.{exits, exits_by, of_disk, same_opened, then_mining}
+use Rattle.driver.proofs.CausesUnmade.{no_disk_refusal, no_mining_refusal, none_then, refuses, same_none}
+use Rattle.std.proofs.Common.{List, ℕ}
+use Rattle.driver.specs.declared.outcome.Outcome.{Outcome}
 use Rattle.driver.proofs.mining_run.mine_settled.Goals as goal
+
+pub returns-in_err-had_first-clause-unstarted : goal.returns-in_err-had_first-clause-unstarted
+returns-in_err-had_first-clause-unstarted g c =
+    λ refusal. c.has.ensures.seen
+
+pub returns-in_err-make_ready-clause-unstarted : goal.returns-in_err-make_ready-clause-unstarted
+returns-in_err-make_ready-clause-unstarted g c =
+    λ refusal. c.in_err-make_ready.ensures.unstarted (refuses c.from_residual-in_err-make_ready.result c.in_err-make_ready.field-0.0 c.from_residual-in_err-make_ready.ensures.1 refusal) ∙ c.has.ensures.seen
+
+pub returns-clause-unstarted : goal.returns-clause-unstarted
+returns-clause-unstarted g c =
+    λ refusal. absurd (no_mining_refusal c.go_on.result c.go_on.ensures.err refusal)
+
+pub returns-in_err-had_first-clause-unmade : goal.returns-in_err-had_first-clause-unmade
+returns-in_err-had_first-clause-unmade g c =
+    λ tells refusal. absurd (no_disk_refusal c.in_err-had_first.field-0.0 c.in_err-had_first.ensures.of_disk (refuses c.from_residual.result c.in_err-had_first.field-0.0 c.from_residual.ensures.1 refusal))
+
+pub returns-in_err-make_ready-clause-unmade : goal.returns-in_err-make_ready-clause-unmade
+returns-in_err-make_ready-clause-unmade g c =
+    λ tells refusal. none_then (files (g.S.Dir.told c.args.site.now)) (files (g.S.Dir.told c.has.new.site)) (files (g.S.Dir.told c.make_ready.new.site)) (same_none (files (g.S.Dir.told c.args.site.now)) (files (g.S.Dir.told c.has.new.site)) (same_state (g.S.Dir.told c.args.site.now) (g.S.Dir.told c.has.new.site) (c.has.ensures.stands tells))) (c.in_err-make_ready.ensures.unmade tells (refuses c.from_residual-in_err-make_ready.result c.in_err-make_ready.field-0.0 c.from_residual-in_err-make_ready.ensures.1 refusal))
+
+pub returns-clause-unmade : goal.returns-clause-unmade
+returns-clause-unmade g c =
+    λ tells refusal. absurd (no_mining_refusal c.go_on.result c.go_on.ensures.err refusal)
+
+pub returns-in_err-had_first-clause-opened : goal.returns-in_err-had_first-clause-opened
+returns-in_err-had_first-clause-opened g c =
+    exits (λ (bytes : List ℕ) (outcome : Outcome). g.S.Dir.tells → IsOpened c.args.conf.now (files (g.S.Dir.told c.args.site.now)) bytes outcome) (g.E.Source.left c.args.edges.now) c.from_residual.result c.in_err-had_first.field-0.0 c.from_residual.ensures.1 (λ bytes tells. of_disk c.args.conf.now (found_in (files (g.S.Dir.told c.args.site.now))) (edges_of c.args.conf.now.nodes bytes) c.in_err-had_first.field-0.0 c.in_err-had_first.ensures.of_disk)
+
+pub returns-in_err-make_ready-clause-opened : goal.returns-in_err-make_ready-clause-opened
+returns-in_err-make_ready-clause-opened g c =
+    exits_by (λ (bytes : List ℕ) (outcome : Outcome). g.S.Dir.tells → IsOpened c.args.conf.now (files (g.S.Dir.told c.args.site.now)) bytes outcome) (λ bytes. g.S.Dir.tells → IsOpened c.args.conf.now (files (g.S.Dir.told c.has.new.site)) bytes (outcome_of_stop c.in_err-make_ready.field-0.0)) (g.E.Source.left c.args.edges.now) c.from_residual-in_err-make_ready.result c.in_err-make_ready.field-0.0 c.from_residual-in_err-make_ready.ensures.1
+    (λ bytes opened tells.
+    let same = same_state (g.S.Dir.told c.args.site.now) (g.S.Dir.told c.has.new.site) (c.has.ensures.stands tells) in
+    same_opened c.args.conf.now (files (g.S.Dir.told c.has.new.site)) (files (g.S.Dir.told c.args.site.now)) bytes (outcome_of_stop c.in_err-make_ready.field-0.0) same (opened tells)) c.in_err-make_ready.ensures.opened
+
+pub returns-clause-opened : goal.returns-clause-opened
+returns-clause-opened g c =
+    both_told (λ bytes. g.S.Dir.tells → IsOpened c.args.conf.now (files (g.S.Dir.told c.has.new.site)) bytes Done) (λ bytes. (λ (bytes : List ℕ) (outcome : Outcome). g.S.Dir.tells → IsOpened c.args.conf.now (files (g.S.Dir.told c.args.site.now)) bytes outcome) bytes (outcome_of c.go_on.result)) (g.E.Source.left c.args.edges.now)
+    (λ bytes opened tells.
+    let same = same_state (g.S.Dir.told c.args.site.now) (g.S.Dir.told c.has.new.site) (c.has.ensures.stands tells) in
+    then_mining c.args.conf.now (found_in (files (g.S.Dir.told c.args.site.now))) (edges_of c.args.conf.now.nodes bytes) c.go_on.result (same_opened c.args.conf.now (files (g.S.Dir.told c.has.new.site)) (files (g.S.Dir.told c.args.site.now)) bytes Done same (opened tells)) c.go_on.ensures.err) c.in_ok-make_ready.ensures.opened
 
 pub returns-in_err-make_ready-clause-kept : goal.returns-in_err-make_ready-clause-kept
 returns-in_err-make_ready-clause-kept g c =

@@ -12,7 +12,40 @@ use Rattle.mining.specs.Places.{folder_of}
 use Rattle.store.specs.Sealed.{IsMade, Makes}
 use Rattle.driver.proofs.Begin.{if_told}
 use Rattle.driver.proofs.Settling.{open_top}
+use Rattle.std.proofs.Common.{None, inl}
+use Rattle.dir_disk.specs.State.{State}
+use Rattle.store.specs.Ingesting.{IsReasonOf}
+use Rattle.mining.specs.declared.stop.Stop.TheVariants.{NoMemory}
+use Rattle.mining.specs.Stops.{of_ingest}
+use Rattle.driver.specs.Causes.{IsOpened, found_in}
+use Rattle.driver.specs.Opening.{mark_of}
+use Rattle.driver.specs.declared.outcome.Outcome.TheVariants.{Done}
+use Rattle.driver.proofs.Begin.{both_told}
+use Rattle.driver.proofs.Causes.{exits, exits_by, of_reading}
+use Rattle.driver.proofs.CausesUnmade.{refused_edges, refuses}
+use Rattle.std.proofs.Common.{List, ℕ}
+use Rattle.driver.specs.declared.outcome.Outcome.{Outcome}
 use Rattle.driver.proofs.opening.make_edges.Goals as goal
+
+pub returns-in_err-folder-clause-unmade : goal.returns-in_err-folder-clause-unmade
+returns-in_err-folder-clause-unmade g c =
+    λ tells refusal. absurd (refuses c.from_residual.result NoMemory c.from_residual.ensures.1 refusal)
+
+pub returns-in_err-write_edges-clause-unmade : goal.returns-in_err-write_edges-clause-unmade
+returns-in_err-write_edges-clause-unmade g c =
+    λ tells refusal. refused_edges c.in_ok-folder.folder (g.S.Dir.told c.args.site.now) (g.S.Dir.told c.write_edges.new.dir) c.in_err-write_edges.field-0.0 c.in_ok-folder.ensures (λ q. g.met.S.Dir.now_allowed c.write_edges.new.dir q tells) (c.requires.unmarked tells) (refuses c.from_residual-in_err-write_edges.result (of_ingest c.in_err-write_edges.field-0.0) c.from_residual-in_err-write_edges.ensures.1 refusal) (c.in_err-write_edges.ensures.refused tells)
+
+pub returns-in_err-folder-clause-opened : goal.returns-in_err-folder-clause-opened
+returns-in_err-folder-clause-opened g c =
+    exits (λ (bytes : List ℕ) (outcome : Outcome). (state : State) → mark_of Edges state ≡ None → IsOpened c.args.conf.now state bytes outcome) (g.E.Source.left c.args.edges.now) c.from_residual.result NoMemory c.from_residual.ensures.1 (λ bytes state none. tt)
+
+pub returns-in_err-write_edges-clause-opened : goal.returns-in_err-write_edges-clause-opened
+returns-in_err-write_edges-clause-opened g c =
+    exits_by (λ (bytes : List ℕ) (outcome : Outcome). (state : State) → mark_of Edges state ≡ None → IsOpened c.args.conf.now state bytes outcome) (λ bytes. IsReasonOf (edges_of c.args.conf.now.nodes bytes) c.in_err-write_edges.field-0.0) (g.E.Source.left c.args.edges.now) c.from_residual-in_err-write_edges.result (of_ingest c.in_err-write_edges.field-0.0) c.from_residual-in_err-write_edges.ensures.1 (λ bytes reason state none. of_reading c.args.conf.now (found_in state) (edges_of c.args.conf.now.nodes bytes) c.in_err-write_edges.field-0.0 none reason) c.in_err-write_edges.ensures.reason
+
+pub returns-clause-opened : goal.returns-clause-opened
+returns-clause-opened g c =
+    both_told (λ bytes. (edges_of c.args.conf.now.nodes bytes).refusal ≡ None) (λ bytes. (λ (bytes : List ℕ) (outcome : Outcome). (state : State) → mark_of Edges state ≡ None → IsOpened c.args.conf.now state bytes outcome) bytes Done) (g.E.Source.left c.args.edges.now) (λ bytes fine state none. inl (none, fine)) c.in_ok-write_edges.ensures.fine
 
 pub returns-in_err-folder-clause-steps : goal.returns-in_err-folder-clause-steps
 returns-in_err-folder-clause-steps g c =

@@ -1,6 +1,26 @@
 use Rattle.std.proofs.Common.{◌∙◌, sym}
 use Rattle.driver.proofs.RunLemmas.{if_done, none_done, not_done}
+use Rattle.std.proofs.Common.{IfSome, List, ℕ, subst}
+use Rattle.dir_disk.specs.Moments.{files}
+use Rattle.driver.specs.Causes.{IsOpened}
+use Rattle.driver.specs.declared.outcome.Outcome.{Outcome}
+use Rattle.driver.specs.Causes.{IsRefusal}
 use Rattle.driver.proofs.running.run_mining.Goals as goal
+
+pub returns-in-Err-clause-unstarted : goal.returns-in-Err-clause-unstarted
+returns-in-Err-clause-unstarted g c =
+    λ refusal. c.in-Err.ensures.unstarted (subst IsRefusal c.into.ensures refusal)
+
+pub returns-in-Err-clause-unmade : goal.returns-in-Err-clause-unmade
+returns-in-Err-clause-unmade g c =
+    λ tells refusal. c.in-Err.ensures.unmade tells (subst IsRefusal c.into.ensures refusal)
+
+pub returns-in-Ok-clause-opened : goal.returns-in-Ok-clause-opened
+returns-in-Ok-clause-opened g c = c.in-Ok.ensures.opened
+
+pub returns-in-Err-clause-opened : goal.returns-in-Err-clause-opened
+returns-in-Err-clause-opened g c =
+    subst (λ (o : Outcome). IfSome (g.E.Source.left c.args.edges.now) (λ bytes. g.S.Dir.tells → IsOpened c.args.conf.now (files (g.S.Dir.told c.args.site.now)) bytes o)) (sym c.into.ensures) c.in-Err.ensures.opened
 
 pub returns-in-Ok-clause-done : goal.returns-in-Ok-clause-done
 returns-in-Ok-clause-done g c =

@@ -5,7 +5,20 @@ use Rattle.dir_disk.proofs.Through.{started}
 use Rattle.conf.specs.Commands.{is_mining}
 use Rattle.driver.specs.Opening.{HasVectors, StaysOne}
 use Rattle.driver.proofs.RunLemmas.{mines_other, none_stay}
+use Rattle.driver.proofs.CausesUnmade.{same_none}
 use Rattle.driver.proofs.running.run_over.Goals as goal
+
+pub returns-in-Plain-clause-unstarted : goal.returns-in-Plain-clause-unstarted
+returns-in-Plain-clause-unstarted g c =
+    λ refusal. (g.met.S.Site.beside_console c.label_nodes.new.console c.args.site.now c.label_nodes.ensures.beside).0
+
+pub returns-in-Plain-clause-unmade : goal.returns-in-Plain-clause-unmade
+returns-in-Plain-clause-unmade g c =
+    λ tells refusal. same_none (files (g.S.Dir.told c.args.site.now)) (files (g.S.Dir.told c.label_nodes.new.console)) (ap (λ (t : Told). files t) ((g.met.S.Site.beside_console c.label_nodes.new.console c.args.site.now c.label_nodes.ensures.beside).1 tells).1)
+
+pub returns-in-Plain-clause-opened : goal.returns-in-Plain-clause-opened
+returns-in-Plain-clause-opened g c =
+    λ mines. absurd (false≢true (sym (ap is_mining c.in-Plain.is) ∙ mines))
 
 pub returns-in-Plain-clause-steady_disk : goal.returns-in-Plain-clause-steady_disk
 returns-in-Plain-clause-steady_disk g c =

@@ -5,7 +5,20 @@ use Rattle.conf.specs.Commands.{is_mining}
 use Rattle.conf.specs.declared.reading.Conf.{Conf as Settings}
 use Rattle.driver.proofs.Starting.{acks_begun}
 use Rattle.driver.proofs.RunLemmas.{DoneFor, KeptFor, SaidFor, meant_for, mean_one}
-use Rattle.driver.proofs.running.run.Goals as goal
+use Rattle.driver.proofs.Causes.{OpenedFor}
+use Rattle.driver.proofs.running.carry_out.Goals as goal
+
+pub returns-in-Err-clause-opened : goal.returns-in-Err-clause-opened
+returns-in-Err-clause-opened g c =
+    λ conf mean mines form. absurd (false≢true (sym (mean.accepted c.in-Err.usage.word) ∙ c.in-Err.ensures.refused.refused))
+
+pub returns-in-Some-clause-opened : goal.returns-in-Some-clause-opened
+returns-in-Some-clause-opened g c =
+    λ conf mean mines form. meant_for (OpenedFor g.S.Dir.tells (g.S.Dir.told c.args.site.now) c.run_over.result) (map string_bytes c.args.words.now) (g.E.Source.left c.args.edges.now) (Some (c.in-Some.count, c.in-Some.seed)) c.in-Ok.conf conf c.in-Ok.ensures.accepted mean c.in-Some.is (subst (λ (text : List ℕ). (OpenedFor g.S.Dir.tells (g.S.Dir.told c.args.site.now) c.run_over.result) c.in-Ok.conf (Some text)) c.new-source.ensures c.run_over.ensures.opened) mines
+
+pub returns-in-None-clause-opened : goal.returns-in-None-clause-opened
+returns-in-None-clause-opened g c =
+    λ conf mean mines form. meant_for (OpenedFor g.S.Dir.tells (g.S.Dir.told c.args.site.now) c.run_over-in-None.result) (map string_bytes c.args.words.now) (g.E.Source.left c.args.edges.now) None c.in-Ok.conf conf c.in-Ok.ensures.accepted mean c.in-None.is c.run_over-in-None.ensures.opened mines
 
 pub new-source-requires : goal.new-source-requires
 new-source-requires g c =

@@ -1,0 +1,2 @@
+pub mod BundledLemmas
+pub mod Empty

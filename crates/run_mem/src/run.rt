@@ -1,0 +1,41 @@
+ghost use Rattle.std.specs.Prelude.{◌≡◌, [], ℕ, List, None, Some, map};
+ghost use Rattle.std.specs.String.{string_bytes};
+ghost use Rattle.graph.specs.declared.edges.Edge.{Edge};
+ghost use Rattle.conf.specs.declared.reading.Conf.{Conf as Settings};
+ghost use Rattle.dir_disk.specs.Moments.{files};
+ghost use Rattle.dir_disk.specs.State.{Fits, Image};
+ghost use Rattle.dir_mem.specs.Memory.{told_of};
+ghost use Rattle.flow.specs.Held.{HoldsIterates};
+ghost use Rattle.driver.specs.Headline.{Asks, HasWritten};
+
+use crate::bundled::Bundled;
+use dir_disk::Source;
+use dir_mem::MemDir;
+use driver::{Outcome, run};
+use site_mem::MemSite;
+use std::alloc::Global;
+
+/// What a run answered, and what it left.
+#[derive(Drop)]
+pub struct Ran {
+    pub outcome: Outcome,
+    pub site: MemSite<Bundled>,
+}
+
+/// Carries out what the words ask for, in an empty work folder in memory, with the bundled children.
+///
+/// No premise on the outside is left: whatever a mining run leaves holds so many steps over the edges, and when it is done
+/// all of its lines were said and the result is that of the plain iteration.
+pub fn run_in_memory<E: Source>(alloc: Global, words: &[String], edges: &mut E) -> Ran
+    ensures iterates { (conf : Settings) (accepted : List Edge)
+        → Asks (map string_bytes words.now) (E.left edges.old) conf accepted → (image : Image)
+        → Fits (files (told_of result.site.dir)) image → HoldsIterates conf accepted image }
+    ensures written { (conf : Settings) (accepted : List Edge)
+        → Asks (map string_bytes words.now) (E.left edges.old) conf accepted → result.outcome ≡ Outcome.Done
+        → HasWritten conf accepted None (Some []) (Some result.site.voice.said) (files (told_of result.site.dir)) }
+{
+    let dir = MemDir::new(alloc);
+    let mut site = MemSite::new(alloc, dir, Bundled);
+    let outcome = run(alloc, words, edges, &mut site);
+    Ran { outcome, site }
+}
