@@ -31,12 +31,23 @@ job() {
 awk -v nodes="$nodes" 'BEGIN {
     seed = 7
     for (edge = 0; edge < 1200; edge++) {
-        seed = (seed * 1103515245 + 12345) % 2147483648; source = int(seed / 65536) % nodes
-        seed = (seed * 1103515245 + 12345) % 2147483648
-        print source "\t" int(seed / 65536) % nodes
+        seed = seed * 16807 % 2147483647; source = seed % nodes
+        seed = seed * 16807 % 2147483647
+        print source "\t" seed % nodes
     }
 }' >edges
 awk -v nodes="$nodes" 'BEGIN { for (node = 0; node < nodes; node++) print node "\tP " node }' >places
+
+# A line of items has at most 4,096.
+for _ in $(seq 4097); do printf '3.2\t1 0 1\n'; done >entries
+"$child" blocks <entries >lines || fail "blocks: status $?"
+[ "$(tr ' ' '\n' <lines | awk -F , '/:/ { print NF }' | tr '\n' ' ')" = '4096 1 ' ] || fail 'lines of other lengths for 4,097 entries'
+[ "$(cut -c 1-11 <lines | tr '\t\n' '  ')" = '3 X 2 1:0:1 3 X 2 1:0:1 ' ] || fail 'other lines for 4,097 entries'
+
+# The rows of random blocks are those of their plain computation.
+if command -v python3 >/dev/null; then
+    python3 "$top/checks/blocks.py" | cmp -s - "$top/crates/pegrows/data/blocks.rows" || fail 'blocks.rows is not what blocks.py writes'
+fi
 
 # The components: least labels are passed on until none changes.
 job 'entries both' id matrix edges

@@ -3,7 +3,10 @@
 
 mod children;
 mod file_source;
+mod hold;
+mod machine;
 mod open_files;
+mod progress;
 mod reads;
 mod site;
 mod std_streams;
@@ -11,9 +14,11 @@ mod tree;
 mod words;
 
 pub use file_source::FileSource;
+pub use machine::Machine;
+pub use progress::Progress;
 pub use site::HostSite;
 pub use std_streams::{HeldStreams, StdConsole, StdSink, StdSource};
-pub use words::{WordsFault, program_words};
+pub use words::{ProgramWords, program_words};
 
 #[cfg(test)]
 mod tests;

@@ -1,7 +1,7 @@
 ghost use Rattle.std.specs.Prelude.{◌≤◌, length, IfOk};
 
 use crate::reads::fill;
-use crate::tree::{clear_folder, parent_of};
+use crate::tree::{clear_folder, midway, parent_of};
 use std::alloc::AllocGlobal;
 use std::fs::{OpenFile, OpenOptions};
 use std::io::{ErrorKind, Seek, SeekFrom, Write};
@@ -41,6 +41,16 @@ impl<R: Files + AllocGlobal + Clone + Drop> OpenFiles<R> {
         self.appended = None;
     }
 
+    /// Closes the files, and before that makes sure that what was appended stays: where the system failed to write it, the
+    /// handle that it came by is the one that is told.
+    pub(crate) fn settle(&mut self) -> io::Result<()> {
+        self.read = None;
+        match self.appended.take() {
+            Some(opened) => opened.file.sync_all(),
+            None => Ok(()),
+        }
+    }
+
     /// Fills the buffer with what the file at a place has from `from` on: how many bytes there are.
     pub(crate) fn read(
         &mut self,
@@ -76,13 +86,18 @@ impl<R: Files + AllocGlobal + Clone + Drop> OpenFiles<R> {
                 place,
             },
         };
-        if bytes.len() as u64 > LONGEST.saturating_sub(opened.file.metadata()?.len()) {
-            return Err(io::Error::from(ErrorKind::FileTooLarge));
-        }
-        opened.file.write_all(bytes)?;
+        add(&mut opened.file, bytes).map_err(midway)?;
         self.appended = Some(opened);
         Ok(())
     }
+}
+
+/// Adds the bytes to an open file, where it doesn't grow too long.
+fn add<F: Write + OpenFile>(file: &mut F, bytes: &[u8]) -> io::Result<()> {
+    if bytes.len() as u64 > LONGEST.saturating_sub(file.metadata()?.len()) {
+        return Err(io::Error::from(ErrorKind::FileTooLarge));
+    }
+    file.write_all(bytes)
 }
 
 /// Opens a file to append to it, and makes it and the folders above it where they are missing.

@@ -1,43 +1,52 @@
-ghost use Rattle.std.specs.Prelude.{◌≡◌, ◌≤◌, ◌^◌, ℕ, [], None, Err, Ok, IfOk, IfSome, MatchResult, length, refl};
+ghost use Rattle.std.specs.Prelude.{◌≡◌, ◌≤◌, ◌^◌, ℕ, [], None, Ok, IfOk, IfSome, IsErr, IsErrOf, MatchResult, length, refl};
 ghost use Rattle.std.proofs.Common.{ap};
 ghost use Rattle.dir_disk.specs.Causes.{HasCause};
 ghost use Rattle.dir_disk.specs.State.{no_files};
 ghost use Rattle.dir_disk.specs.Children.{Seen, loans_of};
 
-use crate::children::{Children, command_of};
+use crate::children::{Children, Places};
+use crate::hold::{Hold, take};
+use crate::machine::Machine;
 use crate::open_files::{LONGEST, OpenFiles};
+use crate::progress::{Event, Progress, Teller};
 use crate::std_streams::say_on;
-use crate::tree::{clear_folder, is_absent, is_folder, parent_of, remove_any, sync, sync_tree};
+use crate::tree::{
+    clear_folder, empty_folder, is_absent, is_folder, is_no_memory, midway, parent_of, remove_any,
+    sync_above, sync_tree,
+};
 use dir_disk::{Console, Dir, DirFault, Ended, SayFault, Site, StartFault};
 use peg_base::{Attempt, Path, Words};
 use peg_text::NoMemory;
-use std::alloc::{AllocGlobal, Global};
-use std::io::{ErrorKind, Print};
-use std::process::Processes;
-use std::rt::Files;
+use std::alloc::Global;
+use std::io::{Error, ErrorKind};
 use std::{fs, io};
 
 /// A work folder of the machine with standard output beside it, at which children are started. It tells no content.
 ///
 /// Folders are made where a file is written, and may be left without files; a folder without files counts as not there.
+/// The first call that changes or settles something takes the work folder, which is made where it is missing, for this
+/// process; where another process has it, that call fails, and so does each one after it.
 #[derive(Drop)]
-pub struct HostSite<'r, R: Files + Processes> {
+pub struct HostSite<'r, R: Machine> {
     rt: &'r R,
     work: String,
     child: String,
+    hold: Hold<R::File>,
     open: OpenFiles<R>,
     children: Children<R>,
+    teller: Teller,
     faults: u64,
     say_faults: u64,
 }
 
-impl<'r, R: Files + Print + Processes + AllocGlobal + Clone + Drop> HostSite<'r, R> {
+impl<'r, R: Machine> HostSite<'r, R> {
     /// A site over the folder of this path, which need not be there yet, with the program that is to stand for `pegchild`.
     pub fn new(
         rt: &'r R,
         alloc: Global,
         work: &str,
         child: &str,
+        progress: Progress,
     ) -> Result<HostSite<'r, R>, NoMemory>
         ensures faults { IfOk result (λ site. ⟦<HostSite<'r, R> as Dir>⟧.faults site ≡ 0) }
         ensures say_faults { IfOk result (λ site. ⟦<HostSite<'r, R> as Console>⟧.say_faults site ≡ 0) }
@@ -45,34 +54,84 @@ impl<'r, R: Files + Print + Processes + AllocGlobal + Clone + Drop> HostSite<'r,
     {
         Ok(HostSite {
             rt,
-            work: String::from_str(alloc, work)?,
+            work: String::from_str(alloc, folder_of(work))?,
             child: String::from_str(alloc, child)?,
+            hold: Hold::Open,
             open: OpenFiles::new(),
             children: Children::new(alloc),
+            teller: Teller::new(progress),
             faults: 0,
             say_faults: 0,
         })
     }
 
-    /// The path of a file or a folder on the machine.
+    /// Whether another process has the work folder, so that calls failed.
+    pub fn is_in_use(&self) -> bool {
+        matches!(self.hold, Hold::InUse)
+    }
+
+    /// Takes the work folder where that was not done yet.
+    fn hold(&mut self) -> io::Result<()>
+        ensures faults { self.new.faults ≡ self.old.faults }
+        ensures say_faults { self.new.say_faults ≡ self.old.say_faults }
+        ensures children { self.new.children ≡ self.old.children }
+    {
+        if matches!(self.hold, Hold::Open) {
+            self.hold = take(self.rt, self.work.as_str())?;
+        }
+        match self.hold {
+            Hold::Held(_) => Ok(()),
+            _ => Err(Error::from(ErrorKind::ResourceBusy)),
+        }
+    }
+
+    /// The path of a file or a folder on the machine. That of the work folder leads through a link.
     fn place_of(&self, alloc: Global, path: &Path) -> Result<String, NoMemory> {
         let mut place = String::from_str(alloc, self.work.as_str())?;
         for name in path.names() {
             place.push('/')?;
             place.push_str(name.text())?;
         }
+        if path.names().is_empty() {
+            place.push_str("/.")?;
+        }
         Ok(place)
     }
 
-    /// What a call answers, with its fault counted.
+    /// The places of a child that is started next.
+    fn places_of(&self, alloc: Global, input: &Path, output: &Path) -> Result<Places, NoMemory> {
+        let own = match &self.hold {
+            Hold::Held(held) => held.own.as_str(),
+            _ => "",
+        };
+        let number = self.children.starts();
+        Ok(Places {
+            input: self.place_of(alloc, input)?,
+            own: format!(in alloc; "{own}/{number}")?,
+            output: self.place_of(alloc, output)?,
+        })
+    }
+
+    /// Takes away the folder in which children write, where none runs.
+    fn leave_own(&self) {
+        if let Hold::Held(held) = &self.hold {
+            if self.children.is_idle() {
+                let _ = fs::remove_dir(self.rt, held.own.as_str());
+            }
+        }
+    }
+
+    /// What a call answers, with its fault counted. Want of memory is none; the calls say so only where no file was changed.
     fn counted<T>(&mut self, answer: io::Result<T>) -> Result<T, DirFault>
-        ensures answer { MatchResult answer (λ value. result ≡ Ok value) (λ _. result ≡ Err DirFault.Failed) }
+        ensures answer { MatchResult answer (λ value. result ≡ Ok value) (λ _. IsErr result) }
         ensures cause { HasCause DirFault.Failed self.old.faults self.new.faults result }
+        ensures no_memory { IsErrOf result DirFault.NoMemory → self.new.faults ≡ self.old.faults }
         ensures say_faults { self.new.say_faults ≡ self.old.say_faults }
         ensures children { self.new.children ≡ self.old.children }
     {
         match answer {
             Ok(value) => Ok(value),
+            Err(error) if is_no_memory(&error) => Err(DirFault::NoMemory),
             Err(_) => {
                 self.faults = self.faults.saturating_add(1);
                 Err(DirFault::Failed)
@@ -80,20 +139,36 @@ impl<'r, R: Files + Print + Processes + AllocGlobal + Clone + Drop> HostSite<'r,
         }
     }
 
-    /// The size of the file at a place, or `None` where no file is.
+    /// The size of the file at a place, or `None` where no file is. A link is an error.
     fn try_size(&self, place: &str) -> io::Result<Option<u64>>
         ensures { IfOk result (λ size. IfSome size (λ n. n ≤ 2 ^ 50)) }
     {
-        match fs::metadata(self.rt, place) {
-            Ok(found) if found.is_dir() => Ok(None),
+        match fs::symlink_metadata(self.rt, place) {
+            Ok(found) if found.is_symlink() => Err(Error::from(ErrorKind::FilesystemLoop)),
+            Ok(found) if !found.is_file() => Ok(None),
             Ok(found) if found.len() <= LONGEST => Ok(Some(found.len())),
-            Ok(_) => Err(io::Error::from(ErrorKind::FileTooLarge)),
+            Ok(_) => Err(Error::from(ErrorKind::FileTooLarge)),
             Err(error) if is_absent(&error) => Ok(None),
             Err(error) => Err(error),
         }
     }
 
-    fn try_move(&self, from: &str, to: &str) -> io::Result<()> {
+    fn try_append(&mut self, place: String, bytes: &[u8]) -> io::Result<()>
+        ensures faults { self.new.faults ≡ self.old.faults }
+        ensures say_faults { self.new.say_faults ≡ self.old.say_faults }
+        ensures children { self.new.children ≡ self.old.children }
+    {
+        self.hold()?;
+        self.open.append(self.rt, place, bytes)
+    }
+
+    fn try_move(&mut self, from: &str, to: &str) -> io::Result<()>
+        ensures faults { self.new.faults ≡ self.old.faults }
+        ensures say_faults { self.new.say_faults ≡ self.old.say_faults }
+        ensures children { self.new.children ≡ self.old.children }
+    {
+        self.hold()?;
+        self.open.close();
         if is_folder(self.rt, to)? {
             clear_folder(self.rt, to)?;
         }
@@ -101,19 +176,45 @@ impl<'r, R: Files + Print + Processes + AllocGlobal + Clone + Drop> HostSite<'r,
         fs::rename(self.rt, from, to)
     }
 
-    /// Syncs all at and under a place, and then so many folders above it.
-    fn try_settle(&self, place: &str, above: usize) -> io::Result<()> {
+    /// Removes all at and under a place, but not the work folder itself.
+    fn try_remove(&mut self, place: &str, above: usize) -> io::Result<()>
+        ensures faults { self.new.faults ≡ self.old.faults }
+        ensures say_faults { self.new.say_faults ≡ self.old.say_faults }
+        ensures children { self.new.children ≡ self.old.children }
+    {
+        self.hold()?;
+        self.open.close();
+        let removed = if above == 0 {
+            empty_folder(self.rt, place)
+        } else {
+            remove_any(self.rt, place)
+        };
+        removed.map_err(midway)
+    }
+
+    /// Syncs all at and under a place, and then so many folders above it, up to the work folder.
+    fn try_settle(&mut self, place: &str, above: usize) -> io::Result<()>
+        ensures faults { self.new.faults ≡ self.old.faults }
+        ensures say_faults { self.new.say_faults ≡ self.old.say_faults }
+        ensures children { self.new.children ≡ self.old.children }
+    {
+        self.hold()?;
+        self.open.settle()?;
         sync_tree(self.rt, place)?;
-        let mut folder = place;
-        for _ in 0..above {
-            folder = parent_of(folder);
-            sync(self.rt, folder)?;
-        }
-        Ok(())
+        sync_above(self.rt, place, above)
     }
 }
 
-impl<'r, R: Files + Print + Processes + AllocGlobal + Clone + Drop> Dir for HostSite<'r, R> {
+/// The path of a folder, without slashes at its end.
+fn folder_of(path: &str) -> &str {
+    match path.trim_end_matches('/') {
+        "" if path.is_empty() => ".",
+        "" => "/",
+        folder => folder,
+    }
+}
+
+impl<'r, R: Machine> Dir for HostSite<'r, R> {
     ghost tells = { ⊥ };
 
     ghost told = { λ _. record { count = 0; at = λ _. record { calls = 0; state = no_files } } };
@@ -157,7 +258,7 @@ impl<'r, R: Files + Print + Processes + AllocGlobal + Clone + Drop> Dir for Host
         let Ok(place) = self.place_of(alloc, path) else {
             return Err(DirFault::NoMemory);
         };
-        let answer = self.open.append(self.rt, place, bytes);
+        let answer = self.try_append(place, bytes);
         self.counted(answer)
     }
 
@@ -165,7 +266,6 @@ impl<'r, R: Files + Print + Processes + AllocGlobal + Clone + Drop> Dir for Host
         let (Ok(from), Ok(to)) = (self.place_of(alloc, from), self.place_of(alloc, to)) else {
             return Err(DirFault::NoMemory);
         };
-        self.open.close();
         let answer = self.try_move(from.as_str(), to.as_str());
         self.counted(answer)
     }
@@ -174,8 +274,7 @@ impl<'r, R: Files + Print + Processes + AllocGlobal + Clone + Drop> Dir for Host
         let Ok(place) = self.place_of(alloc, path) else {
             return Err(DirFault::NoMemory);
         };
-        self.open.close();
-        let answer = remove_any(self.rt, place.as_str());
+        let answer = self.try_remove(place.as_str(), path.names().len());
         self.counted(answer)
     }
 
@@ -183,7 +282,6 @@ impl<'r, R: Files + Print + Processes + AllocGlobal + Clone + Drop> Dir for Host
         let Ok(place) = self.place_of(alloc, path) else {
             return Err(DirFault::NoMemory);
         };
-        self.open.close();
         let answer = self.try_settle(place.as_str(), path.names().len());
         self.counted(answer)
     }
@@ -197,7 +295,7 @@ impl<'r, R: Files + Print + Processes + AllocGlobal + Clone + Drop> Dir for Host
     ghost top_is_no_file = { λ site content tells. absurd tells };
 }
 
-impl<'r, R: Files + Print + Processes + AllocGlobal + Clone + Drop> Console for HostSite<'r, R> {
+impl<'r, R: Machine> Console for HostSite<'r, R> {
     ghost said = { λ _. None };
 
     ghost says = { λ _. None };
@@ -215,7 +313,7 @@ impl<'r, R: Files + Print + Processes + AllocGlobal + Clone + Drop> Console for 
     }
 }
 
-impl<'r, R: Files + Print + Processes + AllocGlobal + Clone + Drop> Site for HostSite<'r, R> {
+impl<'r, R: Machine> Site for HostSite<'r, R> {
     ghost seen = { λ site. site.children };
 
     ghost given = { λ _. [] };
@@ -230,30 +328,41 @@ impl<'r, R: Files + Print + Processes + AllocGlobal + Clone + Drop> Site for Hos
         input: &Path,
         output: &Path,
     ) -> Result<(), StartFault> {
-        let (Ok(from), Ok(place)) = (self.place_of(alloc, input), self.place_of(alloc, output))
-        else {
+        let held = self.hold();
+        let Ok(places) = self.places_of(alloc, input, output) else {
             return Err(StartFault::NoMemory);
         };
         let child = self.child.as_str();
-        let Ok(mut command) = command_of(alloc, child, words, from.as_str(), place.as_str()) else {
+        let Ok(mut command) = self.children.command(alloc, child, words, &places) else {
             return Err(StartFault::NoMemory);
         };
-        let place = place.as_str();
         self.open.close();
-        self.children.start(
+        let answer = self.children.start(
             self.rt,
             alloc,
+            held,
             &mut command,
-            place,
+            places,
             attempt,
             words,
             input,
             output,
-        )
+        );
+        self.leave_own();
+        match answer {
+            Ok(()) => self.teller.tell(self.rt, attempt, Event::Started),
+            Err(StartFault::Failed) => self.teller.tell(self.rt, attempt, Event::NotStarted),
+            Err(StartFault::NoMemory) => {}
+        }
+        answer
     }
 
     fn reap(&mut self) -> Ended {
-        self.children.reap()
+        let ended = self.children.reap(self.rt);
+        self.leave_own();
+        let event = Event::Ended(ended.status, self.children.took());
+        self.teller.tell(self.rt, &ended.attempt, event);
+        ended
     }
 
     ghost beside_dir = { λ s t same. (ap (λ b. b.0) same, (λ tells. absurd tells), refl, refl, ap (λ b. b.1) same) };

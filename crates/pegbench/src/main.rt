@@ -5,7 +5,7 @@
 ghost use Rattle.std.specs.Prelude.{◌≡◌, ◌≤◌, [], length, IfOk};
 
 use dir_disk::{Dir, DirFault, Site};
-use host_real::{HeldStreams, HostSite, program_words};
+use host_real::{HeldStreams, HostSite, Progress, program_words};
 use job::{JobFault, JobSpec, ShuffleFault, run_job, shuffle};
 use peg_base::{Name, Path, Words};
 use peg_text::{NoMemory, read_decimal};
@@ -20,6 +20,8 @@ usage: pegbench split WORK FILE LENGTH     the lines of each split of WORK/FILE 
        pegbench shuffle WORK FILE LIMIT    the pairs of WORK/FILE as WORK/job/_temporary/r-000000.in, by runs of LIMIT bytes
        pegbench job WORK FILE LIMIT CHILD LENGTH
                                            the job WORK/job over WORK/FILE, `CHILD id` being its mapper and its reducer
+       pegbench calls WORK CALL ..         calls of the directory over WORK, one after another, and a line on each answer:
+                                           size:PATH read:PATH append:PATH:TEXT move:PATH:PATH remove:PATH settle:PATH
 ";
 
 /// Why a part was not carried out.
@@ -176,6 +178,96 @@ fn run_on_file<S: Site>(
     Ok(())
 }
 
+/// The path that a text spells, with a slash between any two names.
+fn path_at(alloc: Global, text: &str) -> Result<Path, BenchFault> {
+    let mut path = Path::root(alloc);
+    for name in text.split('/') {
+        match Name::new(alloc, name.as_bytes())? {
+            Some(name) if path.names().len() < 8 => path = path.child(alloc, &name)?,
+            _ => {}
+        }
+    }
+    Ok(path)
+}
+
+/// Carries out a call that is given by its name, its path and what follows: what it answers.
+fn answer_of<D: Dir>(
+    alloc: Global,
+    dir: &mut D,
+    call: &str,
+    path: &Path,
+    more: &str,
+    other: &Path,
+) -> Result<Vec<u8>, DirFault>
+    requires lent { D.lent dir.old ≡ [] }
+    requires untold { D.tells → ⊥ }
+    ensures lent { D.lent dir.new ≡ [] }
+{
+    match call {
+        "size" => return size_line(alloc, dir.size(alloc, path)?),
+        "read" => return dir.read(alloc, path, 0, 4_096),
+        "append" => dir.append(alloc, path, more.as_bytes())?,
+        "move" => dir.move_tree(alloc, path, other)?,
+        "remove" => dir.remove_tree(alloc, path)?,
+        _ => dir.settle(alloc, path)?,
+    }
+    Ok(Vec::new(alloc))
+}
+
+/// What is said of a size.
+fn size_line(alloc: Global, size: Option<u64>) -> Result<Vec<u8>, DirFault> {
+    let Some(size) = size else {
+        return Ok(Vec::new(alloc));
+    };
+    match format!(in alloc; "{size}") {
+        Ok(text) => Ok(text.into_bytes()),
+        Err(_) => Err(DirFault::NoMemory),
+    }
+}
+
+/// Carries out a call that a word spells, and says what it answers.
+fn call<D: Dir>(rt: &HostRuntime, alloc: Global, dir: &mut D, word: &str) -> Result<(), BenchFault>
+    requires lent { D.lent dir.old ≡ [] }
+    requires untold { D.tells → ⊥ }
+    ensures lent { D.lent dir.new ≡ [] }
+{
+    let (name, rest) = word.split_once(':').unwrap_or((word, ""));
+    let (path, more) = rest.split_once(':').unwrap_or((rest, ""));
+    let (path, other) = (path_at(alloc, path)?, path_at(alloc, more)?);
+    let said = match answer_of(alloc, dir, name, &path, more, &other) {
+        Ok(bytes) => say(rt, b"done ", &bytes),
+        Err(DirFault::Failed) => say(rt, b"failed", b""),
+        Err(DirFault::NoMemory) => say(rt, b"no memory", b""),
+    };
+    said
+}
+
+/// Writes a line.
+fn say(rt: &HostRuntime, front: &[u8], bytes: &[u8]) -> Result<(), BenchFault> {
+    for text in [front, bytes, b"\n"] {
+        if rt.stdout().write_all(text).is_err() {
+            return Err(BenchFault::Disk);
+        }
+    }
+    Ok(())
+}
+
+/// Carries out calls one after another.
+fn calls<D: Dir>(
+    rt: &HostRuntime,
+    alloc: Global,
+    dir: &mut D,
+    words: &[String],
+) -> Result<(), BenchFault>
+    requires lent { D.lent dir.old ≡ [] }
+    requires untold { D.tells → ⊥ }
+{
+    for word in words {
+        call(rt, alloc, dir, word.as_str())?;
+    }
+    Ok(())
+}
+
 /// The number that a word says.
 fn number_of(word: &str) -> Result<u64, BenchFault> {
     read_decimal(word.as_bytes()).ok_or(BenchFault::Usage)
@@ -190,7 +282,7 @@ fn run_alone(
     file: &[u8],
     number: u64,
 ) -> Result<(), BenchFault> {
-    let mut site = HostSite::new(rt, alloc, work, "pegchild")?;
+    let mut site = HostSite::new(rt, alloc, work, "pegchild", Progress::Hidden)?;
     match part {
         "split" => split_file(alloc, &mut site, file, number),
         "shuffle" => shuffle_file(alloc, &mut site, file, number),
@@ -201,6 +293,10 @@ fn run_alone(
 /// Carries out the part that the words name.
 fn run(rt: &HostRuntime, alloc: Global, words: &[String]) -> Result<(), BenchFault> {
     match words {
+        [part, work, words @ ..] if part.as_str() == "calls" => {
+            let mut site = HostSite::new(rt, alloc, work.as_str(), "", Progress::Hidden)?;
+            calls(rt, alloc, &mut site, words)
+        }
         [part, work, file, number] => {
             let number = number_of(number.as_str())?;
             run_alone(
@@ -213,7 +309,13 @@ fn run(rt: &HostRuntime, alloc: Global, words: &[String]) -> Result<(), BenchFau
             )
         }
         [part, work, file, limit, child, length] if part.as_str() == "job" => {
-            let mut site = HostSite::new(rt, alloc, work.as_str(), child.as_str())?;
+            let mut site = HostSite::new(
+                rt,
+                alloc,
+                work.as_str(),
+                child.as_str(),
+                Progress::Hidden,
+            )?;
             let limit = number_of(limit.as_str())?;
             let length = number_of(length.as_str())?;
             run_on_file(alloc, &mut site, file.as_bytes(), limit, length)
@@ -228,7 +330,7 @@ fn main(rt: HostRuntime) -> ExitCode {
     let Ok(words) = program_words(&rt, alloc) else {
         return ExitCode::from(70);
     };
-    match run(&rt, alloc, &words) {
+    match run(&rt, alloc, &words.texts) {
         Ok(()) => ExitCode::SUCCESS,
         Err(BenchFault::Usage) => {
             let _ = rt.stderr().write_all(HELP.as_bytes());

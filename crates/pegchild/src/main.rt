@@ -3,7 +3,7 @@
 #![tactic(auto)]
 
 use child::{ChildStatus, run_child};
-use host_real::{HeldStreams, StdSink, StdSource, WordsFault, program_words};
+use host_real::{HeldStreams, StdSink, StdSource, program_words};
 use peg_text::NoMemory;
 use std::alloc::Global;
 use std::process::ExitCode;
@@ -86,9 +86,9 @@ fn main(rt: HostRuntime) -> ExitCode {
     let alloc = rt.alloc();
     let _held = HeldStreams::new(&rt);
     let words = match program_words(&rt, alloc) {
-        Ok(words) => words,
-        Err(WordsFault::NotText { .. }) => return finish(&rt, alloc, ChildStatus::Usage),
-        Err(WordsFault::NoMemory) => return finish(&rt, alloc, ChildStatus::NoMemory),
+        Ok(words) if words.not_texts.is_empty() => words.texts,
+        Ok(_) => return finish(&rt, alloc, ChildStatus::Usage),
+        Err(NoMemory) => return finish(&rt, alloc, ChildStatus::NoMemory),
     };
     if let Some(text) = printed_instead(&words) {
         return match rt.stdout().write_all(text.as_bytes()) {
