@@ -1,7 +1,8 @@
 #!/usr/bin/env bash
 # bench/child.sh FOLDER [LINES]: CPU seconds and memory of pegchild's roles over files of so many lines (2,000,000), beside
-# the same roles of C programs: those over nodes of FOLDER/peer.c, those over blocks of bench/blocks.c. Without a FOLDER, or
-# with `-`, the roles over nodes are left out. Both must write the same bytes. The least of five runs counts.
+# the same roles of C programs, and how many times their CPU it takes: those over nodes of FOLDER/peer.c, those over blocks of
+# bench/blocks.c. Without a FOLDER, or with `-`, the roles over nodes are left out. Both must write the same bytes. The least
+# of five runs counts, and the files of a few long lines are read several times over, so that each run takes a while.
 set -eu
 top=$(cd "$(dirname "$0")/.." && pwd)
 . "$top/bench/common.sh"
@@ -57,12 +58,19 @@ if [ "$peer_folder" != - ]; then
     compare peer ranks stage1 pagerank "$nodes"
 fi
 
+# repeated TIMES FILE: so many copies of a file, whose groups stay apart.
+repeated() {
+    for _ in $(seq "$1"); do cat "$data/$2"; done >"$data/$2.repeated"
+}
+
 # The steps of the block form over these edges, by the C program, give the roles over blocks their files.
 awk '{ print $2 "\tW " $1 " 1"; print $1 "\tW " $2 " 1" }' "$data/edges" >"$data/matrix"
-compare blocks matrix cut 16
+repeated 4 matrix
+compare blocks matrix.repeated cut 16
 for length in 16 256; do
     "$data/blocks" cut "$length" <"$data/matrix" | sort -t "$(printf '\t')" -k1,1 -k2 >"$data/cut"
-    compare blocks cut blocks
+    repeated 4 cut
+    compare blocks cut.repeated blocks
     "$data/blocks" blocks <"$data/cut" >"$data/lines"
     awk -v nodes="$nodes" -v size="$length" 'BEGIN {
         for (block = 0; block * size < nodes; block++) {
@@ -73,7 +81,9 @@ for length in 16 256; do
         }
     }' >"$data/values"
     sort -t "$(printf '\t')" -k1,1 -k2 "$data/lines" "$data/values" >"$data/columns"
-    compare blocks columns block1 hcc "$nodes" "$length"
+    repeated 8 columns
+    compare blocks columns.repeated block1 hcc "$nodes" "$length"
     "$data/blocks" block1 hcc "$nodes" "$length" <"$data/columns" | sort -t "$(printf '\t')" -k1,1 -k2 >"$data/messages"
-    compare blocks messages block2 hcc "$nodes" "$length"
+    repeated 16 messages
+    compare blocks messages.repeated block2 hcc "$nodes" "$length"
 done

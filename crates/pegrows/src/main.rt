@@ -57,7 +57,7 @@ fn run(rt: &HostRuntime) -> io::Result<bool> {
     let Ok(words) = program_words(rt, alloc) else {
         return Ok(false);
     };
-    let (scripts, refused) = cut(&words);
+    let (scripts, refused) = cut(&words.texts);
     let mut report = Report::new(alloc);
     run_scripts(rt, alloc, scripts, &mut report)?;
     refuse_scripts(rt, alloc, refused, &mut report)?;

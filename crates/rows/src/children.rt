@@ -6,7 +6,7 @@ use crate::trouble::Trouble;
 use crate::world::World;
 use crate::writing::{add, add_attempt, add_number, add_quoted, quoted, text};
 use dir_disk::{Console, Ended, LogEntry, SayFault, StartFault};
-use peg_base::Attempt;
+use peg_base::{Attempt, Path};
 use site_mem::Order;
 use std::alloc::Global;
 
@@ -127,14 +127,31 @@ fn add_entry(alloc: Global, out: &mut Vec<u8>, entry: &LogEntry) -> Result<(), T
     }
 }
 
-/// What happened to attempts: `+` where one was started, `-` where its start failed, and its status where it ended.
-pub(crate) fn log(alloc: Global, world: &World) -> Result<Vec<u8>, Trouble> {
+/// The job of an entry's attempt.
+fn job_of(entry: &LogEntry) -> &Path {
+    match entry {
+        LogEntry::Started(attempt) | LogEntry::StartFailed(attempt) | LogEntry::Ended(attempt, _) =>
+            { &attempt.task.job }
+    }
+}
+
+/// Adds an entry, with a blank before it where others stand there.
+fn add_next(alloc: Global, out: &mut Vec<u8>, entry: &LogEntry) -> Result<(), Trouble> {
+    if !out.is_empty() {
+        add(out, b" ")?;
+    }
+    add_entry(alloc, out, entry)
+}
+
+/// `[FOLDER]`: what happened to attempts, or to those of one job: `+` where one was started, `-` where its start failed, and
+/// its status where it ended.
+pub(crate) fn log(alloc: Global, world: &World, args: &[Vec<u8>]) -> Result<Vec<u8>, Trouble> {
+    let of = path_of(alloc, word(args, 0))?;
     let mut out = Vec::new(alloc);
     for entry in world.site.site.log() {
-        if !out.is_empty() {
-            add(&mut out, b" ")?;
+        if job_of(entry).under(&of) {
+            add_next(alloc, &mut out, entry)?;
         }
-        add_entry(alloc, &mut out, entry)?;
     }
     if out.is_empty() {
         add(&mut out, b"nothing")?;
@@ -151,9 +168,9 @@ pub(crate) fn say(alloc: Global, world: &mut World, args: &[Vec<u8>]) -> Result<
     }
 }
 
-/// What was said in this world.
+/// What was said since the last run began, or in this world where there was none.
 pub(crate) fn said(alloc: Global, world: &World) -> Result<Vec<u8>, Trouble> {
-    quoted(alloc, world.site.site.said())
+    quoted(alloc, world.said())
 }
 
 /// What had been said before the stop, and what was said since.

@@ -66,7 +66,13 @@ pub(crate) fn numbered_lines(alloc: Global, args: &[Vec<u8>]) -> Result<Vec<u8>,
     Ok(lines)
 }
 
-fn add_padded(alloc: Global, out: &mut Vec<u8>, number: u64, width: u64) -> Result<(), Trouble> {
+/// Adds a number in at least so many digits.
+pub(crate) fn add_padded(
+    alloc: Global,
+    out: &mut Vec<u8>,
+    number: u64,
+    width: u64,
+) -> Result<(), Trouble> {
     let mut digits = Vec::new(alloc);
     add_number(alloc, &mut digits, number)?;
     for _ in digits.len() as u64..width.min(20) {

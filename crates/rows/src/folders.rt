@@ -10,8 +10,8 @@ use committer::{
 use peg_base::{Path, Phase};
 use std::alloc::Global;
 
-/// The most names of a folder that the committer is asked for.
-const DEEPEST: usize = 5;
+/// The most names of a folder that the committer or the store is asked for.
+pub(crate) const DEEPEST: usize = 5;
 
 fn of_fault(alloc: Global, fault: CommitFault) -> Result<Vec<u8>, Trouble> {
     text(

@@ -1,11 +1,11 @@
 //! Rows of tests that are data: each makes a world in memory, makes calls, and says what they answer.
 #![tactic(auto)]
 
-mod bundled;
 mod children;
 mod cutting;
 mod directory;
 mod each;
+mod edges;
 mod folders;
 mod jobs;
 mod judge;
@@ -16,8 +16,10 @@ mod programs;
 mod reading;
 mod reports;
 mod row;
+mod runs;
 mod settings;
 mod shuffles;
+mod stored;
 mod trial;
 mod trouble;
 mod verbs;

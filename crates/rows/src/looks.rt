@@ -35,7 +35,7 @@ pub(crate) fn has_lines(
 }
 
 /// The text without the blank at its end; `nothing` where that leaves nothing.
-fn trimmed(mut text: Vec<u8>) -> Result<Vec<u8>, Trouble> {
+pub(crate) fn trimmed(mut text: Vec<u8>) -> Result<Vec<u8>, Trouble> {
     if text.last() == Some(&b' ') {
         text.pop();
     }

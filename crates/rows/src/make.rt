@@ -3,7 +3,7 @@ use crate::trouble::Trouble;
 use crate::verbs::{Verb, verb_of};
 use crate::world::World;
 use crate::writing::{number, text};
-use crate::{children, folders, jobs, looks, programs, shuffles};
+use crate::{children, edges, folders, jobs, looks, programs, runs, shuffles, stored};
 use std::alloc::Global;
 
 /// A step that makes a world what it is.
@@ -18,6 +18,10 @@ fn prepare(alloc: Global, world: &mut World, verb: Verb, args: &[Vec<u8>]) -> Re
         Verb::Hold => children::hold(alloc, world, args),
         Verb::Order => children::order(world, args),
         Verb::Mute => children::mute(alloc, world, args),
+        Verb::Edges => edges::set(alloc, world, args),
+        Verb::EdgesOf => edges::set_of(alloc, world, args),
+        Verb::Blind => edges::blind(alloc, world, args),
+        Verb::Begin => world.begin(alloc),
         _ => Err(Trouble::Misread),
     }
 }
@@ -56,6 +60,26 @@ fn act_on_files(
     }
 }
 
+/// A call of the store, with its answer.
+fn act_on_store(
+    alloc: Global,
+    world: &mut World,
+    verb: Verb,
+    args: &[Vec<u8>],
+) -> Result<Vec<u8>, Trouble> {
+    match verb {
+        Verb::Compare => stored::compare(alloc, world, args),
+        Verb::Text => stored::write(alloc, world, args),
+        Verb::Nodes => stored::nodes(alloc, world, args),
+        Verb::Missing => stored::missing(alloc, world, args),
+        Verb::Check => stored::check(alloc, world, args),
+        Verb::Ingest => stored::ingest(alloc, world, args),
+        Verb::Changes => stored::changes(alloc, world, args),
+        Verb::Total => stored::sum(alloc, world, args),
+        _ => act_on_files(alloc, world, verb, args),
+    }
+}
+
 /// A call of any kind, with its answer.
 fn act(alloc: Global, world: &mut World, verb: Verb, args: &[Vec<u8>]) -> Result<Vec<u8>, Trouble> {
     match verb {
@@ -63,12 +87,15 @@ fn act(alloc: Global, world: &mut World, verb: Verb, args: &[Vec<u8>]) -> Result
         Verb::Reap => children::reap(alloc, world),
         Verb::Say => children::say(alloc, world, args),
         Verb::Split => shuffles::split(alloc, world, args),
+        Verb::Cut => shuffles::cut(alloc, world, args),
         Verb::Spill => shuffles::spill_lines(alloc, world, args),
         Verb::Merge => shuffles::merge(alloc, world, args),
         Verb::Shuffle => shuffles::shuffle_outputs(alloc, world, args),
         Verb::Job => jobs::run(alloc, world, args),
+        Verb::Run => runs::run(alloc, world, args),
+        Verb::Plain => runs::plain(alloc, world, args),
         Verb::Child => programs::child(alloc, args),
-        _ => act_on_files(alloc, world, verb, args),
+        _ => act_on_store(alloc, world, verb, args),
     }
 }
 
@@ -89,9 +116,10 @@ fn look_or_act(
         Verb::Calls => number(alloc, world.calls_since_start()),
         Verb::Later => looks::later(alloc, world),
         Verb::Running => number(alloc, world.running()),
-        Verb::Log => children::log(alloc, world),
+        Verb::Log => children::log(alloc, world, args),
         Verb::Said => children::said(alloc, world),
         Verb::Heard => children::heard(alloc, world),
+        Verb::Resumed => runs::resumed(alloc, world),
         _ => act(alloc, world, verb, args),
     }
 }

@@ -15,7 +15,8 @@ pub(crate) fn path_of(alloc: Global, text: &[u8]) -> Result<Path, Trouble> {
     Ok(path)
 }
 
-fn path_below(alloc: Global, path: &Path, name: &[u8]) -> Result<Path, Trouble> {
+/// The path of this name below another one.
+pub(crate) fn path_below(alloc: Global, path: &Path, name: &[u8]) -> Result<Path, Trouble> {
     let Some(name) = Name::new(alloc, name)? else {
         return Err(Trouble::Misread);
     };

@@ -1,18 +1,22 @@
 ghost use Rattle.std.specs.Prelude.{◌≡◌, ◌≢◌, true, All};
 
 use crate::directory::{rest, word};
-use crate::reading::{number_of, path_of};
+use crate::looks::trimmed;
+use crate::reading::{number_of, path_below, path_of};
 use crate::settings::{check_settings, number_in, path_in, paths_in, small_in, text_in};
 use crate::trouble::Trouble;
 use crate::world::World;
-use crate::writing::{number, text};
+use crate::writing::{add, add_quoted, number, text};
 use job::{ShuffleFault, shuffle};
 use merge::{MergeFault, merge_runs};
 use peg_base::Path;
 use peg_text::{records, split_pair};
 use spill::{Spill, SpillFault};
-use splits::{Split, SplitFault, lines_of_split};
+use splits::{Split, SplitFault, lines_of_split, split_table};
 use std::alloc::Global;
+
+/// The most bytes of a file and of a split that a row may ask for.
+const LONGEST: u64 = 1 << 60;
 
 /// `PATH START END into PATH`: writes the lines that begin in a split, and answers how many they are.
 pub(crate) fn split(
@@ -35,6 +39,71 @@ pub(crate) fn split(
         Err(SplitFault::Disk) => text(alloc, b"disk"),
         Err(SplitFault::NoMemory) => text(alloc, b"memory"),
     }
+}
+
+/// The splits of a file, where each but the last has so many bytes.
+fn splits_of(
+    alloc: Global,
+    world: &World,
+    path: &Path,
+    length: u64,
+) -> Result<Vec<Split>, Trouble> {
+    let Some(bytes) = world.content(path) else {
+        return Err(Trouble::Misread);
+    };
+    let len = bytes.len() as u64;
+    if len > LONGEST || length == 0 || length > LONGEST {
+        return Err(Trouble::Misread);
+    }
+    Ok(split_table(alloc, len, length)?)
+}
+
+/// Writes the lines that begin in a split, and adds them in quotes.
+fn cut_one(
+    alloc: Global,
+    world: &mut World,
+    path: &Path,
+    split: &Split,
+    to: &Path,
+    out: &mut Vec<u8>,
+) -> Result<(), Trouble> {
+    if world.site.site.running() != 0 {
+        return Err(Trouble::Misread);
+    }
+    let Ok(_) = lines_of_split(alloc, &mut world.site, path, split, to) else {
+        return Err(Trouble::Misread);
+    };
+    let Some(lines) = world.content(to) else {
+        return Err(Trouble::Misread);
+    };
+    add_quoted(out, lines)?;
+    add(out, b" ")
+}
+
+fn cut_all(
+    alloc: Global,
+    world: &mut World,
+    path: &Path,
+    splits: &[Split],
+    folder: &Path,
+) -> Result<Vec<u8>, Trouble> {
+    let mut out = Vec::new(alloc);
+    for (at, split) in splits.iter().enumerate() {
+        let name = number(alloc, at as u64)?;
+        let to = path_below(alloc, folder, &name)?;
+        cut_one(alloc, world, path, split, &to, &mut out)?;
+    }
+    trimmed(out)
+}
+
+/// `PATH LENGTH into FOLDER`: cuts a file into splits of this length, and answers the lines of each.
+pub(crate) fn cut(alloc: Global, world: &mut World, args: &[Vec<u8>]) -> Result<Vec<u8>, Trouble> {
+    let path = path_of(alloc, word(args, 0))?;
+    let length = number_of(word(args, 1))?;
+    check_settings(rest(args, 2), &[b"into"])?;
+    let folder = path_in(alloc, rest(args, 2), b"into")?;
+    let splits = splits_of(alloc, world, &path, length)?;
+    cut_all(alloc, world, &path, &splits, &folder)
 }
 
 /// `PATH from RUN .. scratch FOLDER`: merges runs, and answers how many pairs they have.

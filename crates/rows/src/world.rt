@@ -1,9 +1,14 @@
-use crate::bundled::Bundled;
+ghost use Rattle.std.specs.Prelude.{◌≡◌, [], All, IfOk};
+ghost use Rattle.dir_mem.specs.Images.{CanBegin, image_of};
+ghost use Rattle.dir_mem.specs.Memory.{lent_of};
+
+use crate::edges::Edges;
 use crate::trouble::Trouble;
 use dir_disk::{Dir, DirFault};
 use dir_mem::{Image, MemDir};
 use peg_base::Path;
 use rows_tools::TriedSite;
+use run_mem::Bundled;
 use site_mem::MemSite;
 use std::alloc::Global;
 
@@ -17,6 +22,36 @@ pub(crate) struct World {
     pub failing: Option<u64>,
     /// What had been said before the stop that left the files of this world.
     pub before: Vec<u8>,
+    /// The edges that a run reads.
+    pub edges: Edges,
+    /// How many bytes had been said in this world when the last run began.
+    pub heard: usize,
+    /// How many vectors were whole then, from that of iteration 0 on.
+    pub vectors: u64,
+}
+
+/// The images of now. A directory can be made from each.
+fn images_of_now(alloc: Global, dir: &MemDir) -> Result<Vec<Image>, Trouble>
+    ensures { IfOk result (λ images. All (λ image. CanBegin (image_of image)) images.items) }
+{
+    Ok(dir.images(alloc, dir.calls())?)
+}
+
+/// A directory that begins with the files of this one, all of which were settled.
+fn begun(alloc: Global, dir: &MemDir) -> Result<MemDir, Trouble>
+    ensures { IfOk result (λ dir. lent_of dir ≡ []) }
+{
+    let mut images = images_of_now(alloc, dir)?;
+    let Some(image) = images.pop() else {
+        return Err(Trouble::Misread);
+    };
+    Ok(MemDir::from_image(alloc, image)?)
+}
+
+/// A site over a directory that begins with the files of this one, all of which were settled.
+fn site_begun(alloc: Global, dir: &MemDir) -> Result<TriedSite<Bundled>, Trouble> {
+    let dir = begun(alloc, dir)?;
+    Ok(TriedSite::new(alloc, MemSite::new(alloc, dir, Bundled)))
 }
 
 impl World {
@@ -29,6 +64,9 @@ impl World {
             start: 0,
             failing: None,
             before: Vec::new(alloc),
+            edges: Edges::new(alloc),
+            heard: 0,
+            vectors: 0,
         }
     }
 
@@ -45,7 +83,18 @@ impl World {
         }
         world.start = world.calls();
         world.before.extend_from_slice(self.site.said_by(moment))?;
+        world.edges.copy_from(&self.edges)?;
         Ok(world)
+    }
+
+    /// Settles all, and goes on at a new site whose directory begins with the files that are there.
+    pub(crate) fn begin(&mut self, alloc: Global) -> Result<(), Trouble> {
+        let Ok(()) = self.settle(alloc, &Path::root(alloc)) else {
+            return Err(Trouble::Misread);
+        };
+        self.site = site_begun(alloc, self.site.site.dir())?;
+        self.start = 0;
+        Ok(())
     }
 
     /// Writes a file that is there for good.
@@ -136,6 +185,12 @@ impl World {
     /// How many children run.
     pub(crate) fn running(&self) -> u64 {
         self.site.site.running() as u64
+    }
+
+    /// What was said since the last run began, or in this world where there was none.
+    pub(crate) fn said(&self) -> &[u8] {
+        let all = self.site.site.said();
+        all.get(self.heard..).unwrap_or(all)
     }
 
     /// What a file has now.
