@@ -4,6 +4,7 @@ pub mod AnswerLemmas
 pub mod BelowLemmas
 pub mod PlainLemmas
 pub mod RecordLoopLemmas
+pub mod RoomLemmas
 pub mod SofarLemmas
 pub mod TakeLemmas
 pub mod WrittenLemmas

@@ -76,6 +76,11 @@ abbrev pub nodes_of : State → ℕ
 nodes_of (Reads n line held taken) = n
 nodes_of (Refused n fault) = n
 
+-- how many bytes a reader has taken that reads on
+abbrev pub taken_of : State → ℕ
+taken_of (Reads n line held taken) = taken
+taken_of (Refused n fault) = 0
+
 -- what is read where further pieces are fed to a reader one by one, and then the end
 abbrev pub reading_in_pieces : State → List (List ℕ) → Reading
 reading_in_pieces s [] = record { edges = ended_edges s; refusal = fault_of (ended s) }

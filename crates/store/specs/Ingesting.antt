@@ -4,7 +4,7 @@ use Rattle.dir_disk.specs.Streams.{onto}
 use Rattle.edge_text.specs.declared.fault.EdgeFault.{EdgeFault}
 use Rattle.edge_text.specs.declared.fault.EdgeFault.TheVariants as Text
 use Rattle.edge_text.specs.Edges.{Reading, edges_of, text_of}
-use Rattle.edge_text.specs.Feeding.{State, Reads, Refused, begun, fed, fed_edges, fault_of}
+use Rattle.edge_text.specs.Feeding.{State, begun, fed, fed_edges, fault_of}
 use Rattle.store.specs.declared.edges.Next.{Next}
 use Rattle.store.specs.declared.fault.IngestFault.{IngestFault}
 use Rattle.store.specs.declared.fault.IngestFault.TheVariants as Ingest
@@ -33,11 +33,6 @@ abbrev pub IsNext : ℕ → Option (List ℕ) → Option (List ℕ) → State �
 IsNext n before now reader text Next.More = HasFed n before now reader text
 IsNext n before now reader text Next.End = HasRead n before text None
 IsNext n before now reader text (Next.Refused fault) = HasRead n before text (Some fault)
-
--- how many bytes a reader has taken that reads on
-abbrev pub taken_of : State → ℕ
-taken_of (Reads n line held taken) = taken
-taken_of (Refused n fault) = 0
 
 -- what becomes of a refusal: want of memory is a fault of its own
 abbrev pub IsPassedOn : EdgeFault → Result Next IngestFault → Type 0

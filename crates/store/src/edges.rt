@@ -1,7 +1,8 @@
 ghost use Rattle.std.specs.Prelude.{◌≡◌, ◌≢◌, [], ◌++◌, ◌-◌, ◌<◌, ◌^◌, ℕ, List, Option, IfErr, IfOk, IsErrOf};
 ghost use Rattle.dir_disk.specs.Causes.{HasCause};
 ghost use Rattle.dir_disk.specs.Streams.{AtEnd};
-ghost use Rattle.store.specs.Ingesting.{HasFed, IsNext, IsOfMemory, IsOfSource, IsPassedOn, taken_of};
+ghost use Rattle.edge_text.specs.Feeding.{taken_of};
+ghost use Rattle.store.specs.Ingesting.{HasFed, IsNext, IsOfMemory, IsOfSource, IsPassedOn};
 
 use crate::fault::IngestFault;
 use crate::sizes::PIECE;

@@ -1,8 +1,9 @@
 use Rattle.std.proofs.Common.{◌≡◌, ◌-◌, ◌^◌, ℕ, List}
 use Rattle.dir_disk.specs.Moments.{Both, Through, files}
 use Rattle.dir_disk.specs.State.{bytes_at}
+use Rattle.edge_text.specs.Feeding.{taken_of}
 use Rattle.store.specs.Comparing.{IsCounted, IsSame}
-use Rattle.store.specs.Ingesting.{HasFed, taken_of}
+use Rattle.store.specs.Ingesting.{HasFed}
 use Rattle.store.proofs.checking.check_edges.Given as goal
 
 abbrev pub invariant-pieces : goal.invariant-pieces

@@ -5,8 +5,8 @@ use Rattle.edge_text.specs.Answers.{UnlessOutOfMemory}
 use Rattle.edge_text.specs.Edges.{text_of}
 use Rattle.edge_text.specs.Feeding.{fed_edges}
 use Rattle.edge_text.proofs.AnswerLemmas.{unless_both}
+use Rattle.edge_text.proofs.RoomLemmas.{nearer}
 use Rattle.store.specs.Ingesting.{HasRead}
-use Rattle.store.proofs.RoomLemmas.{nearer}
 use Rattle.store.proofs.IngestLemmas.{fed_still, fed_more, fed_refused, passed_on}
 use Rattle.store.proofs.edges.next_text.Goals as goal
 

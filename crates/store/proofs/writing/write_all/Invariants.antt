@@ -1,7 +1,8 @@
 use Rattle.std.proofs.Common.{◌≡◌, ◌-◌, ◌^◌, ℕ, List, []}
 use Rattle.dir_disk.specs.Moments.{Told, files}
+use Rattle.edge_text.specs.Feeding.{taken_of}
 use Rattle.committer.specs.Folders.{IsBegun}
-use Rattle.store.specs.Ingesting.{HasFed, taken_of}
+use Rattle.store.specs.Ingesting.{HasFed}
 use Rattle.store.specs.Sealed.{IsWriting}
 use Rattle.store.proofs.writing.write_all.Given as goal
 

@@ -5,9 +5,8 @@ use Rattle.edge_text.specs.Edges.{most_bytes}
 use Rattle.edge_text.specs.declared.verdict.Verdict.{Verdict}
 use Rattle.edge_text.specs.declared.verdict.Verdict.TheVariants.{Skipped, Accepted, Bad, Big}
 use Rattle.edge_text.specs.Verdicts.{verdict_of}
-use Rattle.edge_text.specs.Feeding.{State, after_byte, after_record, Reads, Refused, fed, fault_of}
+use Rattle.edge_text.specs.Feeding.{State, after_byte, after_record, Reads, Refused, fed, fault_of, taken_of}
 use Rattle.edge_text.proofs.FeedingLemmas.{fed-refused}
-use Rattle.store.specs.Ingesting.{taken_of}
 
 pub some_is_none : {A : Type 0} {x : A} → Some x ≡ None → ⊥
 some_is_none e = cc
