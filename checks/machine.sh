@@ -111,8 +111,7 @@ find shared -printf '%p %s %T@ %C@\n' | sort >before
 "$pegmine" shared edges hcc nodes=6 >said 2>faults
 status=$?
 find shared -printf '%p %s %T@ %C@\n' | sort >after
-kill -9 $first
-wait $first 2>/dev/null
+{ kill -9 $first; wait $first; } 2>/dev/null
 [ $status = 6 ] && [ ! -s said ] && [ "$(cat faults)" = 'pegmine: work folder in use' ] ||
     fail "two runs at once: status $status: $(cat faults)"
 cmp -s before after || fail "two runs at once: the second one changed something: $(diff before after | head -3)"

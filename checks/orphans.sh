@@ -45,8 +45,7 @@ PATH=$here/slow:$PATH PEGCHILD=$here/garbage "$pegmine" work edges hcc nodes=6 >
 run=$!
 for wait in $(seq 200); do [ -z "$(find work -name 'attempt-m-*' 2>/dev/null)" ] || break; sleep 0.05; done
 sleep 0.3
-kill -9 $run
-wait $run 2>/dev/null
+{ kill -9 $run; wait $run; } 2>/dev/null
 
 PEGCHILD=$here/late "$pegmine" work edges hcc nodes=6 >said 2>faults || fail "status $?: $(cat faults)"
 [ -e ended ] || fail 'no child was left over'
