@@ -13,3 +13,4 @@ pub mod WordLemmas
 pub mod Headline
 pub mod Causes
 pub mod CausesUnmade
+pub mod Logging

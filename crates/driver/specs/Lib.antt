@@ -6,3 +6,4 @@ pub mod Running
 pub mod Opening
 pub mod Headline
 pub mod Causes
+pub mod Logged

@@ -10,6 +10,7 @@ ghost use Rattle.conf.specs.Meaning.{Mean};
 ghost use Rattle.conf.specs.Rules.{IsLeastRefused};
 ghost use Rattle.conf.specs.declared.commands.Command.TheVariants.{Plain};
 ghost use Rattle.conf.specs.declared.reading.Conf.{Conf as Settings};
+ghost use Rattle.job.specs.Failing.{gained};
 ghost use Rattle.mining.specs.Acked.{Acks};
 ghost use Rattle.mining.specs.Flow.{last_of, mining_of, most_of};
 ghost use Rattle.mining.specs.Iterations.{console};
@@ -18,6 +19,7 @@ ghost use Rattle.flow.specs.Children.{FollowsChildren};
 ghost use Rattle.flow.specs.Held.{HoldsIterates, iterates_console};
 ghost use Rattle.flow.specs.Iterates.{IsLast, changed_of};
 ghost use Rattle.driver.specs.Headline.{Asks, HasWritten, WhereverItStops};
+ghost use Rattle.driver.specs.Logged.{LogsRun, TellsOfOutcome};
 ghost use Rattle.driver.specs.Opening.{HasRun, HasVectors, IsFrom, StaysOne};
 ghost use Rattle.driver.specs.Plain.{Labels};
 ghost use Rattle.driver.specs.Running.{IsUnmade, bytes_for};
@@ -83,6 +85,16 @@ pub fn run<E: Source, S: Site>(
         → let mining = mining_of S.gives conf accepted in S.tells → AllKept mining (files (S.told site.old))
         → IsFrom (most_of conf conf.command) (files (S.told site.old)) k → result ≡ Outcome.Done
         → HasRun mining k (S.said site.old) (S.said site.new) (files (S.told site.new)) }
+
+    // The log gained, and the children were given, what the phases of jobs of the table add, in its order, each once, and of no
+    // iteration up to the one that the run goes on after; when it is done each of them was done. `plain` starts no child.
+    ensures log { (conf : Settings) → Mean (map string_bytes words.now) conf
+        → LogsRun S.tells S.gives conf (S.told site.old) (S.told site.new) (S.seen site.old)
+        (S.seen site.new) (S.given site.old) (S.given site.new) result }
+    ensures idle { (conf : Settings) → Mean (map string_bytes words.now) conf → conf.command ≡ Plain
+        → S.seen site.new ≡ S.seen site.old }
+    // `TaskFailed` is answered just where four attempts of that task failed, and of no lesser one of its phase.
+    ensures answers { TellsOfOutcome (gained (S.seen site.old).log (S.seen site.new).log) result }
 
     // Whatever was there: what is whole with the same bytes in each image stays so, and no child is left running.
     ensures stays { S.tells → StaysOne (files (S.told site.old)) (files (S.told site.new)) }

@@ -7,6 +7,7 @@ ghost use Rattle.conf.specs.Commands.{is_mining};
 ghost use Rattle.conf.specs.Texts.{text_of};
 ghost use Rattle.mining.specs.declared.place.Place.TheVariants as At;
 ghost use Rattle.mining.specs.Places.{folder_of};
+ghost use Rattle.mining.specs.Failures.{IsOfNoTask};
 ghost use Rattle.driver.specs.Opening.{IsJudgedJob, mark_of};
 ghost use Rattle.driver.specs.Causes.{IsOpened, found_in, outcome_of};
 
@@ -24,6 +25,7 @@ fn check_text<S: Site>(alloc: Global, site: &mut S, path: &Path, text: &[u8]) ->
     ensures none_running { (S.seen site.new).running ≡ [] }
     ensures seen { S.seen site.new ≡ S.seen site.old }
     ensures given { S.tells → S.given site.new ≡ S.given site.old }
+    ensures no_task { IfErr result IsOfNoTask }
     ensures stands { S.tells
         → Through (Both (λ state. state ≡ files (S.told site.old))) (S.told site.old) (S.told site.new) }
     ensures judged { S.tells → IsJudgedJob (files (S.told site.old) path.now).now text.now result }
@@ -47,6 +49,7 @@ pub fn check_conf<S: Site>(alloc: Global, site: &mut S, conf: &Conf) -> Result<(
     ensures none_running { (S.seen site.new).running ≡ [] }
     ensures seen { S.seen site.new ≡ S.seen site.old }
     ensures given { S.tells → S.given site.new ≡ S.given site.old }
+    ensures no_task { IfErr result IsOfNoTask }
     ensures stands { S.tells
         → Through (Both (λ state. state ≡ files (S.told site.old))) (S.told site.old) (S.told site.new) }
     ensures judged { S.tells
@@ -75,6 +78,7 @@ pub fn check_source<E: Source, S: Site>(
     ensures none_running { (S.seen site.new).running ≡ [] }
     ensures seen { S.seen site.new ≡ S.seen site.old }
     ensures given { S.tells → S.given site.new ≡ S.given site.old }
+    ensures no_task { IfErr result IsOfNoTask }
     ensures stands { S.tells
         → Through (Both (λ state. state ≡ files (S.told site.old))) (S.told site.old) (S.told site.new) }
     ensures opened { IfSome (E.left edges.old) (λ bytes. let found = found_in (files (S.told site.old)) in S.tells
@@ -109,6 +113,7 @@ pub fn check_job<E: Source, S: Site>(
     ensures none_running { (S.seen site.new).running ≡ [] }
     ensures seen { S.seen site.new ≡ S.seen site.old }
     ensures given { S.tells → S.given site.new ≡ S.given site.old }
+    ensures no_task { IfErr result IsOfNoTask }
     ensures stands { S.tells
         → Through (Both (λ state. state ≡ files (S.told site.old))) (S.told site.old) (S.told site.new) }
     ensures opened { IfSome (E.left edges.old) (λ bytes. S.tells → IsSome (mark_of At.Edges (files (S.told site.old)))

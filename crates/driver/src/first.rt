@@ -12,6 +12,10 @@ ghost use Rattle.mining.specs.Flow.{mining_of};
 ghost use Rattle.mining.specs.Kept.{AllKept, Kept};
 ghost use Rattle.store.specs.Sealed.{IsMade, Makes, nodes_text};
 ghost use Rattle.mining.specs.Stops.{IsOfJobs};
+ghost use Rattle.mining.specs.Failures.{IsOfNoTask, TellsOfAnswer};
+ghost use Rattle.mining.specs.Jobs.{rank_after, rank_from, rank_of_base};
+ghost use Rattle.job.specs.Failing.{gained};
+ghost use Rattle.driver.specs.Logged.{RunsJobs};
 ghost use Rattle.driver.specs.Opening.{StandsLater};
 
 use conf::Conf;
@@ -25,6 +29,9 @@ fn begin_nodes<S: Site>(alloc: Global, site: &mut S, conf: &Conf) -> Result<(), 
     requires none_running { (S.seen site.old).running ≡ [] }
     requires unmarked { S.tells → IsUnmarked (folder_of At.Nodes) (files (S.told site.old)) }
     ensures none_running { (S.seen site.new).running ≡ [] }
+    ensures seen { S.seen site.new ≡ S.seen site.old }
+    ensures given { S.tells → S.given site.new ≡ S.given site.old }
+    ensures no_task { IfErr result IsOfNoTask }
     ensures made { S.tells
         → OnOk result (IsMade (folder_of At.Nodes) (nodes_text conf.now.nodes) (files (S.told site.new))) }
     ensures steps { S.tells
@@ -45,6 +52,9 @@ fn make_nodes<S: Site>(alloc: Global, site: &mut S, conf: &Conf) -> Result<(), S
     requires none_running { (S.seen site.old).running ≡ [] }
     requires firm { S.tells → AllFirm (files (S.told site.old)) }
     ensures none_running { (S.seen site.new).running ≡ [] }
+    ensures seen { S.seen site.new ≡ S.seen site.old }
+    ensures given { S.tells → S.given site.new ≡ S.given site.old }
+    ensures no_task { IfErr result IsOfNoTask }
     ensures firm { S.tells → OnOk result (AllFirm (files (S.told site.new))) }
     ensures sure { S.tells → OnOk result (IsSure At.Nodes (files (S.told site.new))) }
     ensures stays { S.tells
@@ -71,6 +81,9 @@ fn make_matrix<S: Site>(alloc: Global, site: &mut S, conf: &Conf) -> Result<(), 
     requires none_running { (S.seen site.old).running ≡ [] }
     requires firm { S.tells → AllFirm (files (S.told site.old)) }
     ensures none_running { (S.seen site.new).running ≡ [] }
+    ensures jobs { RunsJobs S.tells S.gives conf.now rank_of_base (rank_from 0)
+        (S.seen site.old) (S.seen site.new) (S.given site.old) (S.given site.new) (S.told site.new) result }
+    ensures answers { TellsOfAnswer (gained (S.seen site.old).log (S.seen site.new).log) result }
     ensures firm { S.tells → OnOk result (AllFirm (files (S.told site.new))) }
     ensures sure { S.tells → OnOk result (IsSure At.Matrix (files (S.told site.new))) }
     ensures stays { S.tells
@@ -95,6 +108,13 @@ pub fn make_base<S: Site>(alloc: Global, site: &mut S, conf: &Conf) -> Result<()
     requires none_running { (S.seen site.old).running ≡ [] }
     requires firm { S.tells → AllFirm (files (S.told site.old)) }
     ensures none_running { (S.seen site.new).running ≡ [] }
+    ensures jobs { RunsJobs S.tells S.gives conf.now rank_of_base (rank_after 0)
+        (S.seen site.old) (S.seen site.new) (S.given site.old) (S.given site.new) (S.told site.new) result }
+    // Where the first vector is whole, no job of it is carried out.
+    ensures early { S.tells → IsSure (At.Vector 0) (files (S.told site.old))
+        → RunsJobs S.tells S.gives conf.now rank_of_base (rank_from 0)
+        (S.seen site.old) (S.seen site.new) (S.given site.old) (S.given site.new) (S.told site.new) result }
+    ensures answers { TellsOfAnswer (gained (S.seen site.old).log (S.seen site.new).log) result }
     ensures firm { S.tells → OnOk result (AllFirm (files (S.told site.new))) }
     ensures sure { S.tells → OnOk result (IsSure (At.Vector 0) (files (S.told site.new))) }
     ensures stays { S.tells

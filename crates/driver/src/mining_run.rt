@@ -18,6 +18,10 @@ ghost use Rattle.mining.specs.Kept.{AllKept, Kept};
 ghost use Rattle.driver.specs.Opening.{HasRun, HasVectors, IsFrom, IsFromThere, KeepsFinished, StandsLater, StaysOne};
 ghost use Rattle.mining.specs.Stops.{IsOfMining};
 ghost use Rattle.driver.specs.Causes.{IsOpened, IsRefusal, MakesNone, outcome_of};
+ghost use Rattle.mining.specs.Failures.{TellsOfAnswer};
+ghost use Rattle.mining.specs.Jobs.{rank_after, rank_behind, rank_from, rank_of_base};
+ghost use Rattle.job.specs.Failing.{gained};
+ghost use Rattle.driver.specs.Logged.{LogsRun, RunsJobs};
 
 use crate::first::make_base;
 use crate::opening::take_job;
@@ -40,6 +44,12 @@ fn make_ready<E: Source, S: Site>(
     requires none_running { (S.seen site.old).running ≡ [] }
     requires firm { S.tells → AllFirm (files (S.told site.old)) }
     ensures none_running { (S.seen site.new).running ≡ [] }
+    ensures jobs { RunsJobs S.tells S.gives conf.now rank_of_base (rank_after 0)
+        (S.seen site.old) (S.seen site.new) (S.given site.old) (S.given site.new) (S.told site.new) result }
+    ensures early { S.tells → IsSure (At.Vector 0) (files (S.told site.old))
+        → RunsJobs S.tells S.gives conf.now rank_of_base (rank_from 0)
+        (S.seen site.old) (S.seen site.new) (S.given site.old) (S.given site.new) (S.told site.new) result }
+    ensures answers { TellsOfAnswer (gained (S.seen site.old).log (S.seen site.new).log) result }
     ensures firm { S.tells → OnOk result (AllFirm (files (S.told site.new))) }
     ensures sure { S.tells → OnOk result (IsSure (At.Vector 0) (files (S.told site.new))) }
     ensures kept { IfSome (E.left edges.old) (λ bytes. let mining = mining_of S.gives conf.now (edges_of conf.now.nodes bytes).edges in S.tells
@@ -73,6 +83,13 @@ fn go_on<S: Site>(alloc: Global, site: &mut S, conf: &Conf, had_first: bool) -> 
     requires firm { S.tells → AllFirm (files (S.told site.old)) }
     requires sure { S.tells → IsSure (At.Vector 0) (files (S.told site.old)) }
     ensures none_running { (S.seen site.new).running ≡ [] }
+    ensures jobs { RunsJobs S.tells S.gives conf.now (rank_after 0) rank_behind
+        (S.seen site.old) (S.seen site.new) (S.given site.old) (S.given site.new) (S.told site.new) result }
+    ensures past { (k : ℕ) → S.tells
+        → IsFromThere had_first (most_of conf.now conf.now.command) (files (S.told site.old)) (Some k)
+        → RunsJobs S.tells S.gives conf.now (rank_after k) rank_behind
+        (S.seen site.old) (S.seen site.new) (S.given site.old) (S.given site.new) (S.told site.new) result }
+    ensures answers { TellsOfAnswer (gained (S.seen site.old).log (S.seen site.new).log) result }
     ensures kept { (edges : List Edge) → let mining = mining_of S.gives conf.now edges in S.tells
         → AllKept mining (files (S.told site.old)) → conf.now.form ≡ Base
         → Through (EachImage (Kept mining)) (S.told site.old) (S.told site.new) }
@@ -110,6 +127,9 @@ fn mine_settled<E: Source, S: Site>(
     requires none_running { (S.seen site.old).running ≡ [] }
     requires firm { S.tells → AllFirm (files (S.told site.old)) }
     ensures none_running { (S.seen site.new).running ≡ [] }
+    ensures log { LogsRun S.tells S.gives conf.now (S.told site.old) (S.told site.new) (S.seen site.old)
+        (S.seen site.new) (S.given site.old) (S.given site.new) (outcome_of result) }
+    ensures answers { TellsOfAnswer (gained (S.seen site.old).log (S.seen site.new).log) result }
     ensures kept { IfSome (E.left edges.old) (λ bytes. let mining = mining_of S.gives conf.now (edges_of conf.now.nodes bytes).edges in S.tells
         → AllKept mining (files (S.told site.old)) → conf.now.form ≡ Base
         → Through (EachImage (Kept mining)) (S.told site.old) (S.told site.new)) }
@@ -153,6 +173,10 @@ pub fn mine<E: Source, S: Site>(
     requires none_running { (S.seen site.old).running ≡ [] }
     // No child runs.
     ensures none_running { (S.seen site.new).running ≡ [] }
+    // The log gained what jobs of the table add, and tells of a task that failed.
+    ensures log { LogsRun S.tells S.gives conf.now (S.told site.old) (S.told site.new) (S.seen site.old)
+        (S.seen site.new) (S.given site.old) (S.given site.new) (outcome_of result) }
+    ensures answers { TellsOfAnswer (gained (S.seen site.old).log (S.seen site.new).log) result }
     // Each image at each moment is kept, where each image at entry is.
     ensures kept { IfSome (E.left edges.old) (λ bytes. let mining = mining_of S.gives conf.now (edges_of conf.now.nodes bytes).edges in S.tells
         → AllKept mining (files (S.told site.old)) → conf.now.form ≡ Base

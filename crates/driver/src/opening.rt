@@ -16,6 +16,7 @@ ghost use Rattle.mining.specs.Kept.{AllKept, Kept};
 ghost use Rattle.store.specs.Sealed.{IsMade, Makes};
 ghost use Rattle.driver.specs.Opening.{KeepsFinished, StandsLater};
 ghost use Rattle.mining.specs.Stops.{IsOfDisk, IsOfJobs};
+ghost use Rattle.mining.specs.Failures.{IsOfNoTask};
 ghost use Rattle.driver.specs.Causes.{IsOpened, IsRefusal, MakesNone, outcome_of};
 ghost use Rattle.driver.specs.Opening.{mark_of};
 ghost use Rattle.dir_disk.specs.State.{State};
@@ -36,6 +37,7 @@ fn write_conf<S: Site>(alloc: Global, site: &mut S, folder: &Path, text: &[u8]) 
     ensures none_running { (S.seen site.new).running ≡ [] }
     ensures seen { S.seen site.new ≡ S.seen site.old }
     ensures given { S.tells → S.given site.new ≡ S.given site.old }
+    ensures no_task { IfErr result IsOfNoTask }
     ensures outside { S.tells
         → Through (Both (StandsOutside (folder_of At.Conf) (files (S.told site.old)))) (S.told site.old) (S.told site.new) }
     ensures made { S.tells → OnOk result (IsMade (folder_of At.Conf) text.now (files (S.told site.new))) }
@@ -58,6 +60,7 @@ fn make_conf<S: Site>(alloc: Global, site: &mut S, conf: &Conf) -> Result<(), St
     ensures none_running { (S.seen site.new).running ≡ [] }
     ensures seen { S.seen site.new ≡ S.seen site.old }
     ensures given { S.tells → S.given site.new ≡ S.given site.old }
+    ensures no_task { IfErr result IsOfNoTask }
     ensures outside { S.tells
         → Through (Both (StandsOutside (folder_of At.Conf) (files (S.told site.old)))) (S.told site.old) (S.told site.new) }
     ensures made { S.tells
@@ -86,6 +89,7 @@ fn make_edges<E: Source, S: Site>(
     ensures none_running { (S.seen site.new).running ≡ [] }
     ensures seen { S.seen site.new ≡ S.seen site.old }
     ensures given { S.tells → S.given site.new ≡ S.given site.old }
+    ensures no_task { IfErr result IsOfNoTask }
     ensures made { S.tells → IfSome (E.left edges.old)
         (λ bytes. OnOk result (IsMade (folder_of At.Edges) (edges_text (edges_of conf.now.nodes bytes).edges) (files (S.told site.new)))) }
     ensures steps { S.tells → IfSome (E.left edges.old)
@@ -126,6 +130,7 @@ fn begin_job<E: Source, S: Site>(
     ensures none_running { (S.seen site.new).running ≡ [] }
     ensures seen { S.seen site.new ≡ S.seen site.old }
     ensures given { S.tells → S.given site.new ≡ S.given site.old }
+    ensures no_task { IfErr result IsOfNoTask }
     ensures firm { S.tells → OnOk result (AllFirm (files (S.told site.new))) }
     ensures sure { S.tells → OnOk result (IsSure At.Edges (files (S.told site.new))) }
     ensures kept { IfSome (E.left edges.old) (λ bytes. let mining = mining_of S.gives conf.now (edges_of conf.now.nodes bytes).edges in S.tells
@@ -163,6 +168,7 @@ pub fn take_job<E: Source, S: Site>(
     ensures none_running { (S.seen site.new).running ≡ [] }
     ensures seen { S.seen site.new ≡ S.seen site.old }
     ensures given { S.tells → S.given site.new ≡ S.given site.old }
+    ensures no_task { IfErr result IsOfNoTask }
     ensures firm { S.tells → OnOk result (AllFirm (files (S.told site.new))) }
     ensures sure { S.tells → OnOk result (IsSure At.Edges (files (S.told site.new))) }
     ensures kept { IfSome (E.left edges.old) (λ bytes. let mining = mining_of S.gives conf.now (edges_of conf.now.nodes bytes).edges in S.tells

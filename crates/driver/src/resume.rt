@@ -17,6 +17,7 @@ ghost use Rattle.mining.specs.Acked.{Acks};
 ghost use Rattle.mining.specs.Making.{IsAsAt};
 ghost use Rattle.mining.specs.Iterations.{IsAt, line_at};
 ghost use Rattle.mining.specs.Stops.{IsOfJobs, IsOfMining};
+ghost use Rattle.mining.specs.Failures.{IsOfNoTask};
 ghost use Rattle.driver.specs.Opening.{IsFromThere, IsGreatest, from_text, mark_of};
 
 use conf::{Command, Conf};
@@ -32,6 +33,9 @@ fn goes_further<S: Site>(alloc: Global, site: &mut S, k: u32, most: u32) -> Resu
     requires none_running { (S.seen site.old).running ≡ [] }
     requires firm { S.tells → AllFirm (files (S.told site.old)) }
     ensures none_running { (S.seen site.new).running ≡ [] }
+    ensures seen { S.seen site.new ≡ S.seen site.old }
+    ensures given { S.tells → S.given site.new ≡ S.given site.old }
+    ensures no_task { IfErr result IsOfNoTask }
     ensures stands { S.tells
         → Through (Both (λ state. state ≡ files (S.told site.old))) (S.told site.old) (S.told site.new) }
     ensures few { IfOk result (λ more. more ≡ true → k < most) }
@@ -60,6 +64,9 @@ fn reached<S: Site>(alloc: Global, site: &mut S, most: u32) -> Result<u32, Stop>
     requires firm { S.tells → AllFirm (files (S.told site.old)) }
     requires sure { S.tells → IsSure (At.Vector 0) (files (S.told site.old)) }
     ensures none_running { (S.seen site.new).running ≡ [] }
+    ensures seen { S.seen site.new ≡ S.seen site.old }
+    ensures given { S.tells → S.given site.new ≡ S.given site.old }
+    ensures no_task { IfErr result IsOfNoTask }
     ensures stands { S.tells
         → Through (Both (λ state. state ≡ files (S.told site.old))) (S.told site.old) (S.told site.new) }
     ensures few { IfOk result (λ k. k ≤ most) }
@@ -88,6 +95,9 @@ fn read_count<S: Site>(alloc: Global, site: &mut S, conf: &Conf, k: u32) -> Resu
     requires few { k ≤ 1073741824 }
     requires none_running { (S.seen site.old).running ≡ [] }
     ensures none_running { (S.seen site.new).running ≡ [] }
+    ensures seen { S.seen site.new ≡ S.seen site.old }
+    ensures given { S.tells → S.given site.new ≡ S.given site.old }
+    ensures no_task { IfErr result IsOfNoTask }
     ensures stands { S.tells
         → Through (Both (IsAsAt (files (S.told site.old)))) (S.told site.old) (S.told site.new) }
     ensures at { (edges : List Edge) → let mining = mining_of S.gives conf.now edges in S.tells
@@ -113,6 +123,9 @@ fn take_up<S: Site>(alloc: Global, site: &mut S, conf: &Conf, k: u32) -> Result<
     requires none_running { (S.seen site.old).running ≡ [] }
     requires firm { S.tells → AllFirm (files (S.told site.old)) }
     ensures none_running { (S.seen site.new).running ≡ [] }
+    ensures seen { S.seen site.new ≡ S.seen site.old }
+    ensures given { S.tells → S.given site.new ≡ S.given site.old }
+    ensures no_task { IfErr result IsOfNoTask }
     ensures is { IfOk result (λ reached. reached.k ≡ k) }
     ensures firm { S.tells → OnOk result (AllFirm (files (S.told site.new))) }
     ensures stays { S.tells
@@ -141,6 +154,9 @@ fn take_up_any<S: Site>(alloc: Global, site: &mut S, conf: &Conf, k: u32) -> Res
     requires none_running { (S.seen site.old).running ≡ [] }
     requires firm { S.tells → AllFirm (files (S.told site.old)) }
     ensures none_running { (S.seen site.new).running ≡ [] }
+    ensures seen { S.seen site.new ≡ S.seen site.old }
+    ensures given { S.tells → S.given site.new ≡ S.given site.old }
+    ensures no_task { IfErr result IsOfNoTask }
     ensures is { IfOk result (λ reached. reached.k ≡ k) }
     ensures firm { S.tells → OnOk result (AllFirm (files (S.told site.new))) }
     ensures stays { S.tells
@@ -170,6 +186,9 @@ fn resume<S: Site>(alloc: Global, site: &mut S, conf: &Conf, k: u32) -> Result<R
     requires none_running { (S.seen site.old).running ≡ [] }
     requires firm { S.tells → AllFirm (files (S.told site.old)) }
     ensures none_running { (S.seen site.new).running ≡ [] }
+    ensures seen { S.seen site.new ≡ S.seen site.old }
+    ensures given { S.tells → S.given site.new ≡ S.given site.old }
+    ensures no_task { IfErr result IsOfNoTask }
     ensures is { IfOk result (λ reached. reached.k ≡ k) }
     ensures firm { S.tells → OnOk result (AllFirm (files (S.told site.new))) }
     ensures stays { S.tells
@@ -200,6 +219,9 @@ fn begin<S: Site>(alloc: Global, site: &mut S, conf: &Conf) -> Result<Reached, S
     requires none_running { (S.seen site.old).running ≡ [] }
     requires firm { S.tells → AllFirm (files (S.told site.old)) }
     ensures none_running { (S.seen site.new).running ≡ [] }
+    ensures seen { S.seen site.new ≡ S.seen site.old }
+    ensures given { S.tells → S.given site.new ≡ S.given site.old }
+    ensures no_task { IfErr result IsOfNoTask }
     ensures is { IfOk result (λ reached. reached.k ≡ 0) }
     ensures stands { S.tells
         → Through (Both (IsAsAt (files (S.told site.old)))) (S.told site.old) (S.told site.new) }
@@ -237,6 +259,9 @@ fn after_first<S: Site>(
     requires firm { S.tells → AllFirm (files (S.told site.old)) }
     requires sure { S.tells → IsSure (At.Vector 0) (files (S.told site.old)) }
     ensures none_running { (S.seen site.new).running ≡ [] }
+    ensures seen { S.seen site.new ≡ S.seen site.old }
+    ensures given { S.tells → S.given site.new ≡ S.given site.old }
+    ensures no_task { IfErr result IsOfNoTask }
     ensures few { IfOk result (λ reached. reached.k ≤ most_of conf.now conf.now.command) }
     ensures firm { S.tells → OnOk result (AllFirm (files (S.told site.new))) }
     ensures sure { S.tells → IfOk result (λ reached. IsSure (At.Vector reached.k) (files (S.told site.new))) }
@@ -270,6 +295,9 @@ fn start_afresh<S: Site>(alloc: Global, site: &mut S, conf: &Conf) -> Result<Rea
     requires firm { S.tells → AllFirm (files (S.told site.old)) }
     requires sure { S.tells → IsSure (At.Vector 0) (files (S.told site.old)) }
     ensures none_running { (S.seen site.new).running ≡ [] }
+    ensures seen { S.seen site.new ≡ S.seen site.old }
+    ensures given { S.tells → S.given site.new ≡ S.given site.old }
+    ensures no_task { IfErr result IsOfNoTask }
     ensures few { IfOk result (λ reached. reached.k ≤ most_of conf.now conf.now.command) }
     ensures firm { S.tells → OnOk result (AllFirm (files (S.told site.new))) }
     ensures sure { S.tells → IfOk result (λ reached. IsSure (At.Vector reached.k) (files (S.told site.new))) }
@@ -307,6 +335,9 @@ fn start_again<S: Site>(alloc: Global, site: &mut S, conf: &Conf) -> Result<Reac
     requires firm { S.tells → AllFirm (files (S.told site.old)) }
     requires sure { S.tells → IsSure (At.Vector 0) (files (S.told site.old)) }
     ensures none_running { (S.seen site.new).running ≡ [] }
+    ensures seen { S.seen site.new ≡ S.seen site.old }
+    ensures given { S.tells → S.given site.new ≡ S.given site.old }
+    ensures no_task { IfErr result IsOfNoTask }
     ensures few { IfOk result (λ reached. reached.k ≤ most_of conf.now conf.now.command) }
     ensures firm { S.tells → OnOk result (AllFirm (files (S.told site.new))) }
     ensures sure { S.tells → IfOk result (λ reached. IsSure (At.Vector reached.k) (files (S.told site.new))) }
@@ -348,6 +379,9 @@ pub fn start<S: Site>(
     requires firm { S.tells → AllFirm (files (S.told site.old)) }
     requires sure { S.tells → IsSure (At.Vector 0) (files (S.told site.old)) }
     ensures none_running { (S.seen site.new).running ≡ [] }
+    ensures seen { S.seen site.new ≡ S.seen site.old }
+    ensures given { S.tells → S.given site.new ≡ S.given site.old }
+    ensures no_task { IfErr result IsOfNoTask }
     ensures few { IfOk result (λ reached. reached.k ≤ most_of conf.now conf.now.command) }
     ensures firm { S.tells → OnOk result (AllFirm (files (S.told site.new))) }
     ensures sure { S.tells → IfOk result (λ reached. IsSure (At.Vector reached.k) (files (S.told site.new))) }

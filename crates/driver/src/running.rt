@@ -20,6 +20,8 @@ ghost use Rattle.driver.specs.Opening.{HasRun, HasVectors, IsFrom, StaysOne};
 ghost use Rattle.driver.specs.Plain.{Labels};
 ghost use Rattle.driver.specs.Running.{IsUnmade, bytes_for};
 ghost use Rattle.driver.specs.Causes.{IsOpened, IsRefusal, MakesNone};
+ghost use Rattle.driver.specs.Logged.{LogsRun, TellsOfOutcome};
+ghost use Rattle.job.specs.Failing.{gained};
 
 use crate::Outcome;
 use crate::mining_run::mine;
@@ -52,6 +54,9 @@ fn run_mining<E: Source, S: Site>(
     requires mines { is_mining conf.now.command ≡ true }
     requires none_running { (S.seen site.old).running ≡ [] }
     ensures none_running { (S.seen site.new).running ≡ [] }
+    ensures log { LogsRun S.tells S.gives conf.now (S.told site.old) (S.told site.new) (S.seen site.old)
+        (S.seen site.new) (S.given site.old) (S.given site.new) result }
+    ensures answers { TellsOfOutcome (gained (S.seen site.old).log (S.seen site.new).log) result }
     ensures no_usage { (word : ℕ) → result ≢ Outcome.Usage word }
     ensures opened { IfSome (E.left edges.old)
         (λ bytes. S.tells → IsOpened conf.now (files (S.told site.old)) bytes result) }
@@ -95,6 +100,10 @@ fn run_over<E: Source, S: Site>(alloc: Global, conf: &Conf, edges: &mut E, site:
     requires limits { IsWithinLimits conf.now }
     requires none_running { (S.seen site.old).running ≡ [] }
     ensures none_running { (S.seen site.new).running ≡ [] }
+    ensures log { LogsRun S.tells S.gives conf.now (S.told site.old) (S.told site.new) (S.seen site.old)
+        (S.seen site.new) (S.given site.old) (S.given site.new) result }
+    ensures answers { TellsOfOutcome (gained (S.seen site.old).log (S.seen site.new).log) result }
+    ensures idle { conf.now.command ≡ Plain → S.seen site.new ≡ S.seen site.old }
     ensures no_usage { (word : ℕ) → result ≢ Outcome.Usage word }
     ensures plain { conf.now.command ≡ Plain
         → Labels conf.now.nodes (E.left edges.old) (S.said site.old) (S.said site.new) result }
@@ -145,6 +154,14 @@ pub fn carry_out<E: Source, S: Site>(
     requires none_running { (S.seen site.old).running ≡ [] }
     // No child is left running.
     ensures none_running { (S.seen site.new).running ≡ [] }
+
+    // The log gained what jobs of the table add, and tells of a task that failed; `plain` starts no child.
+    ensures log { (conf : Settings) → Mean (map string_bytes words.now) conf
+        → LogsRun S.tells S.gives conf (S.told site.old) (S.told site.new) (S.seen site.old)
+        (S.seen site.new) (S.given site.old) (S.given site.new) result }
+    ensures answers { TellsOfOutcome (gained (S.seen site.old).log (S.seen site.new).log) result }
+    ensures idle { (conf : Settings) → Mean (map string_bytes words.now) conf → conf.command ≡ Plain
+        → S.seen site.new ≡ S.seen site.old }
 
     // The least number of a refused word is named, and then nothing was touched.
     ensures usage { (word : ℕ) → IsLeastRefused (map string_bytes words.now) word → result ≡ Outcome.Usage word }

@@ -15,6 +15,11 @@ use Rattle.graph.specs.declared.edges.Edge.{Edge}
 use Rattle.conf.specs.declared.reading.Conf.{Conf as Settings}
 use Rattle.driver.specs.Headline.{HasWritten, WhereverItStops}
 use Rattle.driver.specs.Opening.{IsFrom}
+use Rattle.driver.specs.Logged.{LogsPast, TellsOfOutcome}
+use Rattle.driver.specs.declared.outcome.Outcome.{Outcome}
+use Rattle.dir_disk.specs.Children.{Given, Seen}
+use Rattle.dir_disk.specs.declared.site.LogEntry.{LogEntry}
+use Rattle.job.specs.Failing.{gained}
 
 -- what is absent is there in no image
 stays_absent : (content : Content) → Allows (Gone ∷ []) content → content ≡ None
@@ -49,3 +54,12 @@ each_at_end P old new all =
 pub written_after : (conf : Settings) (accepted : List Edge) (k : Option ℕ) (before start now : Option (List ℕ)) (state : State) → before ≡ start → HasWritten conf accepted k before now state → HasWritten conf accepted k start now state
 written_after conf accepted k before start now state same written =
     subst (λ (b : Option (List ℕ)). HasWritten conf accepted k b now state) same written
+
+-- all of the log was gained
+pub logs_after : (gives : List (List ℕ) → List ℕ → List ℕ) (conf : Settings) (old start new : Seen) (had first has : List Given) (told : Told) (outcome : Outcome) → old ≡ start → had ≡ first → LogsPast (Unit {0}) gives conf None old new had has told outcome → LogsPast (Unit {0}) gives conf None start new first has told outcome
+logs_after gives conf old start new had first has told outcome seen given logs =
+    subst (λ (g : List Given). LogsPast (Unit {0}) gives conf None start new g has told outcome) given (subst (λ (s : Seen). LogsPast (Unit {0}) gives conf None s new had has told outcome) seen logs)
+
+pub answers_after : (old new : List LogEntry) (outcome : Outcome) → old ≡ [] → TellsOfOutcome (gained old new) outcome → TellsOfOutcome new outcome
+answers_after old new outcome none told =
+    subst (λ (l : List LogEntry). TellsOfOutcome (gained l new) outcome) none told

@@ -7,6 +7,9 @@ ghost use Rattle.dir_disk.specs.State.{Fits, Image};
 ghost use Rattle.dir_mem.specs.Memory.{told_of};
 ghost use Rattle.flow.specs.Held.{HoldsIterates};
 ghost use Rattle.driver.specs.Headline.{Asks, HasWritten};
+ghost use Rattle.driver.specs.Logged.{LogsPast, TellsOfOutcome};
+ghost use Rattle.conf.specs.Meaning.{Mean};
+ghost use Rattle.flow.specs.Children.{bundled};
 
 use crate::bundled::Bundled;
 use dir_disk::Source;
@@ -33,6 +36,11 @@ pub fn run_in_memory<E: Source>(alloc: Global, words: &[String], edges: &mut E) 
     ensures written { (conf : Settings) (accepted : List Edge)
         → Asks (map string_bytes words.now) (E.left edges.old) conf accepted → result.outcome ≡ Outcome.Done
         → HasWritten conf accepted None (Some []) (Some result.site.voice.said) (files (told_of result.site.dir)) }
+    // The log is what jobs of the table add, from the first on, and it tells of a task that failed.
+    ensures log { (conf : Settings) → Mean (map string_bytes words.now) conf
+        → LogsPast (Unit {0}) bundled conf None (record { running = []; log = []; start_faults = 0 }) result.site.seen []
+        result.site.given (told_of result.site.dir) result.outcome }
+    ensures answers { TellsOfOutcome result.site.seen.log result.outcome }
 {
     let dir = MemDir::new(alloc);
     let mut site = MemSite::new(alloc, dir, Bundled);

@@ -1,3 +1,9 @@
+use Rattle.driver.proofs.Logging.{none_run, quiet_answer, run_after, run_within}
+use Rattle.mining.proofs.Failures.{begun_answer}
+use Rattle.mining.proofs.JobsAdded.{rank_matrix}
+use Rattle.mining.specs.Jobs.{rank_from, rank_of_base}
+use Rattle.mining.specs.Places.{rank_of}
+use Rattle.std.proofs.Common.{◌+◌, arith}
 use Rattle.std.proofs.Common.{refl}
 use Rattle.dir_disk.specs.Moments.{EachImage, Told, Through, files}
 use Rattle.dir_disk.proofs.Through.{then_goes}
@@ -32,3 +38,19 @@ returns-clause-kept g c =
 pub returns-clause-later : goal.returns-clause-later
 returns-clause-later g c =
     λ tells. later_then (files (g.S.Dir.told c.args.site.now)) (files (g.S.Dir.told c.make_nodes.new.site)) (files (g.S.Dir.told c.ensure_folder.new.site)) (c.make_nodes.ensures.later tells) (matrix_later (files (g.S.Dir.told c.make_nodes.new.site)) (files (g.S.Dir.told c.ensure_folder.new.site)) (c.ensure_folder.ensures.outside tells))
+
+pub returns-in_err-make_nodes-clause-jobs : goal.returns-in_err-make_nodes-clause-jobs
+returns-in_err-make_nodes-clause-jobs g c =
+    none_run g.S.Dir.tells g.S.Site.gives c.args.conf.now rank_of_base (rank_from 0) (g.S.Site.seen c.args.site.now) (g.S.Site.seen c.make_nodes.new.site) (g.S.Site.given c.args.site.now) (g.S.Site.given c.make_nodes.new.site) (g.S.Dir.told c.make_nodes.new.site) c.from_residual.result (omega arith) c.make_nodes.ensures.seen c.make_nodes.ensures.given
+
+pub returns-in_err-make_nodes-clause-answers : goal.returns-in_err-make_nodes-clause-answers
+returns-in_err-make_nodes-clause-answers g c =
+    quiet_answer (g.S.Site.seen c.args.site.now) (g.S.Site.seen c.make_nodes.new.site) c.from_residual.result c.in_err-make_nodes.field-0.0 c.make_nodes.ensures.seen c.from_residual.ensures.1 c.in_err-make_nodes.ensures.no_task
+
+pub returns-clause-jobs : goal.returns-clause-jobs
+returns-clause-jobs g c =
+    let m = rank_matrix in run_after g.S.Dir.tells g.S.Site.gives c.args.conf.now (g.S.Site.seen c.args.site.now) (g.S.Site.seen c.make_nodes.new.site) (g.S.Site.seen c.ensure_folder.new.site) (g.S.Site.given c.args.site.now) (g.S.Site.given c.make_nodes.new.site) (g.S.Site.given c.ensure_folder.new.site) rank_of_base (rank_from 0) (g.S.Dir.told c.ensure_folder.new.site) c.ensure_folder.result (omega arith) c.make_nodes.ensures.seen c.make_nodes.ensures.given (run_within g.S.Dir.tells g.S.Site.gives c.args.conf.now rank_of_base (rank_of Matrix) (rank_of Matrix + 1) (rank_from 0) (g.S.Site.seen c.make_nodes.new.site) (g.S.Site.seen c.ensure_folder.new.site) (g.S.Site.given c.make_nodes.new.site) (g.S.Site.given c.ensure_folder.new.site) (g.S.Dir.told c.ensure_folder.new.site) c.ensure_folder.result (omega (arith, m)) (omega (arith, m)) (c.ensure_folder.ensures.log refl) (c.ensure_folder.ensures.logged refl))
+
+pub returns-clause-answers : goal.returns-clause-answers
+returns-clause-answers g c =
+    begun_answer (Unit {0}) (g.S.Site.seen c.args.site.now) (g.S.Site.seen c.make_nodes.new.site) (g.S.Site.seen c.ensure_folder.new.site) c.ensure_folder.result c.make_nodes.ensures.seen c.ensure_folder.ensures.answers

@@ -1,3 +1,10 @@
+use Rattle.driver.proofs.Logging.{none_run, quiet_answer, run_after, run_within, there_few}
+use Rattle.mining.proofs.Failures.{begun_answer}
+use Rattle.mining.proofs.LastLemmas.{most_small}
+use Rattle.mining.specs.Flow.{most_of}
+use Rattle.mining.specs.Jobs.{rank_after, rank_behind}
+use Rattle.driver.specs.Logged.{RunsJobs}
+use Rattle.std.proofs.Common.{Some, arith}
 use Rattle.driver.proofs.Finished.{whole_finished}
 use Rattle.mining.proofs.EnsureLemmas.{stays_then}
 use Rattle.std.proofs.Common.{ap}
@@ -69,3 +76,35 @@ returns-clause-done g c =
     let then_kept : AllKept mining (files e) = kept_after mining d e kept first in
     let rest = c.mine_on.ensures.done edges tells then_kept (c.in_ok-from.ensures.at edges tells kept) (ap is_clustered form) in
     on_ok (IsDone mining c.in_ok-from.from.k (g.S.Console.said c.start.new.site) (g.S.Console.said c.mine_on.new.site) (files (g.S.Dir.told c.mine_on.new.site))) (HasRun mining k (g.S.Console.said c.args.site.now) (g.S.Console.said c.mine_on.new.site) (files (g.S.Dir.told c.mine_on.new.site))) c.mine_on.result (has_run mining k c.in_ok-from.from.k (g.S.Console.said c.args.site.now) (g.S.Console.said c.start.new.site) (g.S.Console.said c.mine_on.new.site) (files (g.S.Dir.told c.mine_on.new.site)) (c.in_ok-from.ensures.is k tells from) (c.in_ok-from.ensures.ok edges k tells kept from)) rest
+
+pub returns-in_err-from-clause-jobs : goal.returns-in_err-from-clause-jobs
+returns-in_err-from-clause-jobs g c =
+    none_run g.S.Dir.tells g.S.Site.gives c.args.conf.now (rank_after 0) rank_behind (g.S.Site.seen c.args.site.now) (g.S.Site.seen c.start.new.site) (g.S.Site.given c.args.site.now) (g.S.Site.given c.start.new.site) (g.S.Dir.told c.start.new.site) c.from_residual.result (omega arith) c.start.ensures.seen c.start.ensures.given
+
+pub returns-in_err-from-clause-past : goal.returns-in_err-from-clause-past
+returns-in_err-from-clause-past g c =
+    λ k tells from.
+    let small = most_small c.args.conf.now c.requires.limits in
+    let few = there_few c.args.had_first (most_of c.args.conf.now c.args.conf.now.command) k (files (g.S.Dir.told c.args.site.now)) from in
+    none_run g.S.Dir.tells g.S.Site.gives c.args.conf.now (rank_after k) rank_behind (g.S.Site.seen c.args.site.now) (g.S.Site.seen c.start.new.site) (g.S.Site.given c.args.site.now) (g.S.Site.given c.start.new.site) (g.S.Dir.told c.start.new.site) c.from_residual.result (omega (arith, small, few)) c.start.ensures.seen c.start.ensures.given
+
+pub returns-in_err-from-clause-answers : goal.returns-in_err-from-clause-answers
+returns-in_err-from-clause-answers g c =
+    quiet_answer (g.S.Site.seen c.args.site.now) (g.S.Site.seen c.start.new.site) c.from_residual.result c.in_err-from.field-0.0 c.start.ensures.seen c.from_residual.ensures.1 c.in_err-from.ensures.no_task
+
+pub returns-clause-jobs : goal.returns-clause-jobs
+returns-clause-jobs g c =
+    let small = most_small c.args.conf.now c.requires.limits in
+    let few = c.in_ok-from.ensures.few in
+    run_after g.S.Dir.tells g.S.Site.gives c.args.conf.now (g.S.Site.seen c.args.site.now) (g.S.Site.seen c.start.new.site) (g.S.Site.seen c.mine_on.new.site) (g.S.Site.given c.args.site.now) (g.S.Site.given c.start.new.site) (g.S.Site.given c.mine_on.new.site) (rank_after 0) rank_behind (g.S.Dir.told c.mine_on.new.site) c.mine_on.result (omega (arith, small, few)) c.start.ensures.seen c.start.ensures.given (run_within g.S.Dir.tells g.S.Site.gives c.args.conf.now (rank_after 0) (rank_after c.in_ok-from.from.k) rank_behind rank_behind (g.S.Site.seen c.start.new.site) (g.S.Site.seen c.mine_on.new.site) (g.S.Site.given c.start.new.site) (g.S.Site.given c.mine_on.new.site) (g.S.Dir.told c.mine_on.new.site) c.mine_on.result (omega arith) (omega arith) c.mine_on.ensures.log c.mine_on.ensures.logged)
+
+pub returns-clause-past : goal.returns-clause-past
+returns-clause-past g c =
+    λ k tells from.
+    let small = most_small c.args.conf.now c.requires.limits in
+    let few = c.in_ok-from.ensures.few in
+    subst (λ (j : ℕ). RunsJobs g.S.Dir.tells g.S.Site.gives c.args.conf.now (rank_after j) rank_behind (g.S.Site.seen c.args.site.now) (g.S.Site.seen c.mine_on.new.site) (g.S.Site.given c.args.site.now) (g.S.Site.given c.mine_on.new.site) (g.S.Dir.told c.mine_on.new.site) c.mine_on.result) (c.in_ok-from.ensures.is (Some k) tells from) (run_after g.S.Dir.tells g.S.Site.gives c.args.conf.now (g.S.Site.seen c.args.site.now) (g.S.Site.seen c.start.new.site) (g.S.Site.seen c.mine_on.new.site) (g.S.Site.given c.args.site.now) (g.S.Site.given c.start.new.site) (g.S.Site.given c.mine_on.new.site) (rank_after c.in_ok-from.from.k) rank_behind (g.S.Dir.told c.mine_on.new.site) c.mine_on.result (omega (arith, small, few)) c.start.ensures.seen c.start.ensures.given (run_within g.S.Dir.tells g.S.Site.gives c.args.conf.now (rank_after c.in_ok-from.from.k) (rank_after c.in_ok-from.from.k) rank_behind rank_behind (g.S.Site.seen c.start.new.site) (g.S.Site.seen c.mine_on.new.site) (g.S.Site.given c.start.new.site) (g.S.Site.given c.mine_on.new.site) (g.S.Dir.told c.mine_on.new.site) c.mine_on.result (omega arith) (omega arith) c.mine_on.ensures.log c.mine_on.ensures.logged))
+
+pub returns-clause-answers : goal.returns-clause-answers
+returns-clause-answers g c =
+    begun_answer (Unit {0}) (g.S.Site.seen c.args.site.now) (g.S.Site.seen c.start.new.site) (g.S.Site.seen c.mine_on.new.site) c.mine_on.result c.start.ensures.seen c.mine_on.ensures.answers

@@ -1,3 +1,7 @@
+use Rattle.driver.proofs.Logging.{none_run, quiet_answer, run_after, vector_stays}
+use Rattle.mining.proofs.Failures.{begun_answer}
+use Rattle.mining.specs.Jobs.{rank_after, rank_from, rank_of_base}
+use Rattle.std.proofs.Common.{arith}
 use Rattle.driver.proofs.Finished.{finished_then, whole_finished}
 use Rattle.std.proofs.Common.{◌≡◌}
 use Rattle.edge_text.specs.Edges.{edges_of}
@@ -50,3 +54,27 @@ returns-clause-stays g c =
 pub returns-clause-later : goal.returns-clause-later
 returns-clause-later g c =
     λ tells. later_then (files (g.S.Dir.told c.args.site.now)) (files (g.S.Dir.told c.take_job.new.site)) (files (g.S.Dir.told c.make_base.new.site)) (c.take_job.ensures.later tells) (c.make_base.ensures.later tells)
+
+pub returns-in_err-take_job-clause-jobs : goal.returns-in_err-take_job-clause-jobs
+returns-in_err-take_job-clause-jobs g c =
+    none_run g.S.Dir.tells g.S.Site.gives c.args.conf.now rank_of_base (rank_after 0) (g.S.Site.seen c.args.site.now) (g.S.Site.seen c.take_job.new.site) (g.S.Site.given c.args.site.now) (g.S.Site.given c.take_job.new.site) (g.S.Dir.told c.take_job.new.site) c.from_residual.result (omega arith) c.take_job.ensures.seen c.take_job.ensures.given
+
+pub returns-in_err-take_job-clause-early : goal.returns-in_err-take_job-clause-early
+returns-in_err-take_job-clause-early g c =
+    λ tells sure. none_run g.S.Dir.tells g.S.Site.gives c.args.conf.now rank_of_base (rank_from 0) (g.S.Site.seen c.args.site.now) (g.S.Site.seen c.take_job.new.site) (g.S.Site.given c.args.site.now) (g.S.Site.given c.take_job.new.site) (g.S.Dir.told c.take_job.new.site) c.from_residual.result (omega arith) c.take_job.ensures.seen c.take_job.ensures.given
+
+pub returns-in_err-take_job-clause-answers : goal.returns-in_err-take_job-clause-answers
+returns-in_err-take_job-clause-answers g c =
+    quiet_answer (g.S.Site.seen c.args.site.now) (g.S.Site.seen c.take_job.new.site) c.from_residual.result c.in_err-take_job.field-0.0 c.take_job.ensures.seen c.from_residual.ensures.1 c.in_err-take_job.ensures.no_task
+
+pub returns-clause-jobs : goal.returns-clause-jobs
+returns-clause-jobs g c =
+    run_after g.S.Dir.tells g.S.Site.gives c.args.conf.now (g.S.Site.seen c.args.site.now) (g.S.Site.seen c.take_job.new.site) (g.S.Site.seen c.make_base.new.site) (g.S.Site.given c.args.site.now) (g.S.Site.given c.take_job.new.site) (g.S.Site.given c.make_base.new.site) rank_of_base (rank_after 0) (g.S.Dir.told c.make_base.new.site) c.make_base.result (omega arith) c.take_job.ensures.seen c.take_job.ensures.given c.make_base.ensures.jobs
+
+pub returns-clause-early : goal.returns-clause-early
+returns-clause-early g c =
+    λ tells sure. run_after g.S.Dir.tells g.S.Site.gives c.args.conf.now (g.S.Site.seen c.args.site.now) (g.S.Site.seen c.take_job.new.site) (g.S.Site.seen c.make_base.new.site) (g.S.Site.given c.args.site.now) (g.S.Site.given c.take_job.new.site) (g.S.Site.given c.make_base.new.site) rank_of_base (rank_from 0) (g.S.Dir.told c.make_base.new.site) c.make_base.result (omega arith) c.take_job.ensures.seen c.take_job.ensures.given (c.make_base.ensures.early tells (vector_stays 0 (g.S.Dir.told c.args.site.now) (g.S.Dir.told c.take_job.new.site) (omega arith) (c.take_job.ensures.stays tells) sure))
+
+pub returns-clause-answers : goal.returns-clause-answers
+returns-clause-answers g c =
+    begun_answer (Unit {0}) (g.S.Site.seen c.args.site.now) (g.S.Site.seen c.take_job.new.site) (g.S.Site.seen c.make_base.new.site) c.make_base.result c.take_job.ensures.seen c.make_base.ensures.answers

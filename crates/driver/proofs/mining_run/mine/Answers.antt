@@ -1,3 +1,5 @@
+use Rattle.driver.proofs.Logging.{after_settled, disk_no_task, logs_after, none_logs, quiet_answer}
+use Rattle.mining.proofs.Failures.{begun_answer}
 use Rattle.driver.proofs.Finished.{fits_stay, settled_stay}
 use Rattle.std.proofs.Common.{◌≡◌}
 use Rattle.dir_disk.specs.Moments.{EachImage, Through, Told, files}
@@ -103,3 +105,19 @@ returns-clause-done g c =
     let kept_e : AllKept mining (files e) = kept_after mining d e kept (settled_keeps mining d e kept (c.settle_all.ensures.images tells)) in
     let from_e : IsFrom (most_of c.args.conf.now c.args.conf.now.command) (files e) k = from_settled (most_of c.args.conf.now c.args.conf.now.command) (files d) (files e) k (c.in_ok-settle_all.ensures.settled tells) from in
     subst (λ (before : Option (List ℕ)). OnOk c.mine_settled.result (HasRun mining k before (g.S.Console.said c.mine_settled.new.site) (files (g.S.Dir.told c.mine_settled.new.site)))) c.settle_all.ensures.said (settled k tells kept_e form from_e)) c.mine_settled.ensures.done
+
+pub returns-in_err-settle_all-clause-log : goal.returns-in_err-settle_all-clause-log
+returns-in_err-settle_all-clause-log g c =
+    λ k after. none_logs g.S.Dir.tells g.S.Site.gives c.args.conf.now k (g.S.Site.seen c.args.site.now) (g.S.Site.seen c.settle_all.new.site) (g.S.Site.given c.args.site.now) (g.S.Site.given c.settle_all.new.site) (g.S.Dir.told c.settle_all.new.site) (outcome_of c.from_residual.result) c.settle_all.ensures.seen c.settle_all.ensures.given
+
+pub returns-in_err-settle_all-clause-answers : goal.returns-in_err-settle_all-clause-answers
+returns-in_err-settle_all-clause-answers g c =
+    quiet_answer (g.S.Site.seen c.args.site.now) (g.S.Site.seen c.settle_all.new.site) c.from_residual.result c.in_err-settle_all.field-0.0 c.settle_all.ensures.seen c.from_residual.ensures.1 (disk_no_task c.in_err-settle_all.field-0.0 c.in_err-settle_all.ensures.of_disk)
+
+pub returns-clause-log : goal.returns-clause-log
+returns-clause-log g c =
+    λ k after. logs_after g.S.Dir.tells g.S.Site.gives c.args.conf.now k (g.S.Site.seen c.args.site.now) (g.S.Site.seen c.settle_all.new.site) (g.S.Site.seen c.mine_settled.new.site) (g.S.Site.given c.args.site.now) (g.S.Site.given c.settle_all.new.site) (g.S.Site.given c.mine_settled.new.site) (g.S.Dir.told c.mine_settled.new.site) (outcome_of c.mine_settled.result) c.settle_all.ensures.seen c.settle_all.ensures.given (c.mine_settled.ensures.log k (after_settled g.S.Dir.tells (most_of c.args.conf.now c.args.conf.now.command) (files (g.S.Dir.told c.args.site.now)) (files (g.S.Dir.told c.settle_all.new.site)) k (λ tells. c.in_ok-settle_all.ensures.settled tells) after))
+
+pub returns-clause-answers : goal.returns-clause-answers
+returns-clause-answers g c =
+    begun_answer (Unit {0}) (g.S.Site.seen c.args.site.now) (g.S.Site.seen c.settle_all.new.site) (g.S.Site.seen c.mine_settled.new.site) c.mine_settled.result c.settle_all.ensures.seen c.mine_settled.ensures.answers

@@ -1,3 +1,10 @@
+use Rattle.driver.proofs.Logging.{base_refused, base_then, err_not_done, first_sure, logs_after, none_logs, quiet_answer, there_again}
+use Rattle.mining.proofs.Failures.{answer_err, answer_then, begun_answer, begun_stop}
+use Rattle.mining.proofs.JobsAdded.{steps_on}
+use Rattle.mining.specs.Jobs.{rank_after, rank_behind, rank_of_base}
+use Rattle.job.specs.Failing.{gained}
+use Rattle.driver.specs.Opening.{IsGreatest}
+use Rattle.std.proofs.Common.{arith}
 use Rattle.driver.proofs.Finished.{finished_then, looks_finished}
 use Rattle.std.proofs.Common.{◌≡◌}
 use Rattle.dir_disk.specs.Moments.{Told}
@@ -141,3 +148,29 @@ returns-clause-done g c =
     let there : IsFromThere c.in_ok-had_first.had_first (most_of c.args.conf.now c.args.conf.now.command) (files f) k = from_there mining (most_of c.args.conf.now c.args.conf.now.command) (files e) (files f) k c.in_ok-had_first.had_first (most_small c.args.conf.now c.requires.limits) (λ q. g.met.S.Dir.now_allowed c.has.new.site q tells) (λ q. g.met.S.Dir.now_allowed c.make_ready.new.site q tells) kept_e (c.in_ok-had_first.ensures.yes tells) (c.in_ok-had_first.ensures.no tells) (c.in_ok-make_ready.ensures.sure tells) (c.make_ready.ensures.later tells) (subst (λ (s : State). IsFrom (most_of c.args.conf.now c.args.conf.now.command) s k) (sym same) from) in
     let said : (g.S.Console.said c.make_ready.new.site) ≡ (g.S.Console.said c.args.site.now) = c.make_ready.ensures.said ∙ c.has.ensures.said in
     subst (λ (before : Option (List ℕ)). OnOk c.go_on.result (HasRun mining k before (g.S.Console.said c.go_on.new.site) (files (g.S.Dir.told c.go_on.new.site)))) said (c.go_on.ensures.done (edges_of c.args.conf.now.nodes bytes).edges k tells kept_f form there)) c.make_ready.ensures.kept
+
+pub returns-in_err-had_first-clause-log : goal.returns-in_err-had_first-clause-log
+returns-in_err-had_first-clause-log g c =
+    λ k after. none_logs g.S.Dir.tells g.S.Site.gives c.args.conf.now k (g.S.Site.seen c.args.site.now) (g.S.Site.seen c.has.new.site) (g.S.Site.given c.args.site.now) (g.S.Site.given c.has.new.site) (g.S.Dir.told c.has.new.site) (outcome_of c.from_residual.result) c.has.ensures.seen c.has.ensures.given
+
+pub returns-in_err-had_first-clause-answers : goal.returns-in_err-had_first-clause-answers
+returns-in_err-had_first-clause-answers g c =
+    quiet_answer (g.S.Site.seen c.args.site.now) (g.S.Site.seen c.has.new.site) c.from_residual.result c.in_err-had_first.field-0.0 c.has.ensures.seen c.from_residual.ensures.1 c.in_err-had_first.ensures.no_task
+
+pub returns-in_err-make_ready-clause-log : goal.returns-in_err-make_ready-clause-log
+returns-in_err-make_ready-clause-log g c =
+    λ k after.
+    logs_after g.S.Dir.tells g.S.Site.gives c.args.conf.now k (g.S.Site.seen c.args.site.now) (g.S.Site.seen c.has.new.site) (g.S.Site.seen c.make_ready.new.site) (g.S.Site.given c.args.site.now) (g.S.Site.given c.has.new.site) (g.S.Site.given c.make_ready.new.site) (g.S.Dir.told c.make_ready.new.site) (outcome_of c.from_residual-in_err-make_ready.result) c.has.ensures.seen c.has.ensures.given (base_refused g.S.Dir.tells g.S.Site.gives c.args.conf.now (most_of c.args.conf.now c.args.conf.now.command) (files (g.S.Dir.told c.args.site.now)) k (g.S.Site.seen c.has.new.site) (g.S.Site.seen c.make_ready.new.site) (g.S.Site.given c.has.new.site) (g.S.Site.given c.make_ready.new.site) (g.S.Dir.told c.make_ready.new.site) (outcome_of c.from_residual-in_err-make_ready.result) after (err_not_done c.from_residual-in_err-make_ready.result c.in_err-make_ready.field-0.0 c.from_residual-in_err-make_ready.ensures.1) c.make_ready.ensures.jobs.gains (λ j tells greatest. (c.make_ready.ensures.early tells (first_sure c.in_ok-had_first.had_first (most_of c.args.conf.now c.args.conf.now.command) j (files (g.S.Dir.told c.has.new.site)) (λ q. g.met.S.Dir.now_allowed c.has.new.site q tells) (c.in_ok-had_first.ensures.yes tells) (c.in_ok-had_first.ensures.no tells) (subst (λ (s : State). IsGreatest (most_of c.args.conf.now c.args.conf.now.command) s j) (sym (same_state (g.S.Dir.told c.args.site.now) (g.S.Dir.told c.has.new.site) (c.has.ensures.stands tells))) greatest))).gains))
+
+pub returns-in_err-make_ready-clause-answers : goal.returns-in_err-make_ready-clause-answers
+returns-in_err-make_ready-clause-answers g c =
+    answer_err (Unit {0}) (gained (g.S.Site.seen c.args.site.now).log (g.S.Site.seen c.make_ready.new.site).log) c.from_residual-in_err-make_ready.result c.in_err-make_ready.field-0.0 c.from_residual-in_err-make_ready.ensures.1 (begun_stop (g.S.Site.seen c.args.site.now) (g.S.Site.seen c.has.new.site) (g.S.Site.seen c.make_ready.new.site) c.in_err-make_ready.field-0.0 c.has.ensures.seen c.in_err-make_ready.ensures.answers)
+
+pub returns-clause-log : goal.returns-clause-log
+returns-clause-log g c =
+    λ k after.
+    logs_after g.S.Dir.tells g.S.Site.gives c.args.conf.now k (g.S.Site.seen c.args.site.now) (g.S.Site.seen c.has.new.site) (g.S.Site.seen c.go_on.new.site) (g.S.Site.given c.args.site.now) (g.S.Site.given c.has.new.site) (g.S.Site.given c.go_on.new.site) (g.S.Dir.told c.go_on.new.site) (outcome_of c.go_on.result) c.has.ensures.seen c.has.ensures.given (base_then g.S.Dir.tells g.S.Site.gives c.args.conf.now (most_of c.args.conf.now c.args.conf.now.command) (files (g.S.Dir.told c.args.site.now)) k (g.S.Site.seen c.has.new.site) (g.S.Site.seen c.make_ready.new.site) (g.S.Site.seen c.go_on.new.site) (g.S.Site.given c.has.new.site) (g.S.Site.given c.make_ready.new.site) (g.S.Site.given c.go_on.new.site) (g.S.Dir.told c.make_ready.new.site) (g.S.Dir.told c.go_on.new.site) c.go_on.result after (λ tells. steps_on (g.S.Dir.told c.make_ready.new.site) (g.S.Dir.told c.go_on.new.site) (c.go_on.ensures.stays tells)) c.in_ok-make_ready.ensures.jobs.done (λ j tells greatest. (c.in_ok-make_ready.ensures.early tells (first_sure c.in_ok-had_first.had_first (most_of c.args.conf.now c.args.conf.now.command) j (files (g.S.Dir.told c.has.new.site)) (λ q. g.met.S.Dir.now_allowed c.has.new.site q tells) (c.in_ok-had_first.ensures.yes tells) (c.in_ok-had_first.ensures.no tells) (subst (λ (s : State). IsGreatest (most_of c.args.conf.now c.args.conf.now.command) s j) (sym (same_state (g.S.Dir.told c.args.site.now) (g.S.Dir.told c.has.new.site) (c.has.ensures.stands tells))) greatest))).done) c.go_on.ensures.jobs (λ j tells greatest. c.go_on.ensures.past j tells (there_again c.in_ok-had_first.had_first (most_of c.args.conf.now c.args.conf.now.command) j (files (g.S.Dir.told c.has.new.site)) (files (g.S.Dir.told c.make_ready.new.site)) (most_small c.args.conf.now c.requires.limits) (λ q. g.met.S.Dir.now_allowed c.has.new.site q tells) (λ q. g.met.S.Dir.now_allowed c.make_ready.new.site q tells) (c.in_ok-had_first.ensures.yes tells) (c.in_ok-had_first.ensures.no tells) (c.in_ok-make_ready.ensures.sure tells) (c.make_ready.ensures.later tells) (subst (λ (s : State). IsGreatest (most_of c.args.conf.now c.args.conf.now.command) s j) (sym (same_state (g.S.Dir.told c.args.site.now) (g.S.Dir.told c.has.new.site) (c.has.ensures.stands tells))) greatest))))
+
+pub returns-clause-answers : goal.returns-clause-answers
+returns-clause-answers g c =
+    begun_answer (Unit {0}) (g.S.Site.seen c.args.site.now) (g.S.Site.seen c.has.new.site) (g.S.Site.seen c.go_on.new.site) c.go_on.result c.has.ensures.seen (answer_then g.S.Dir.tells g.S.Site.gives c.args.conf.now (g.S.Site.seen c.has.new.site) (g.S.Site.seen c.make_ready.new.site) (g.S.Site.seen c.go_on.new.site) (g.S.Site.given c.has.new.site) (g.S.Site.given c.make_ready.new.site) (g.S.Site.given c.go_on.new.site) (g.S.Dir.told c.make_ready.new.site) (g.S.Dir.told c.go_on.new.site) (Unit {0}) rank_of_base (rank_after 0) (rank_after 0) rank_behind c.go_on.result (omega arith) c.in_ok-make_ready.ensures.jobs.done c.go_on.ensures.jobs.gains c.in_ok-make_ready.ensures.answers c.go_on.ensures.answers)

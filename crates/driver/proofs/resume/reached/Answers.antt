@@ -1,4 +1,4 @@
-use Rattle.std.proofs.Common.{rules, arith, subst, sym}
+use Rattle.std.proofs.Common.{◌∙◌, rules, arith, subst, sym}
 use Rattle.mining.specs.declared.place.Place.TheVariants.{Vector}
 use Rattle.mining.specs.Between.{IsSure}
 use Rattle.mining.proofs.Wholes.{same_state, same_then}
@@ -23,6 +23,8 @@ loop-k-preserved g c =
     record {
       few = search rules;
       none_running = search rules;
+      seen = search rules;
+      given = λ tells. c.goes_further.ensures.given tells ∙ c.loop-k.invariant.given tells;
       stands = λ tells. same_then (g.S.Dir.told c.args.site.now) (g.S.Dir.told c.loop-k.site) (g.S.Dir.told c.goes_further.new.site) (c.loop-k.invariant.stands tells) (c.goes_further.ensures.stands tells);
       firm = λ tells. c.goes_further.ensures.firm tells;
       sure = λ tells j below. up_to c.loop-k.k (files (g.S.Dir.told c.goes_further.new.site)) (λ i under. subst (IsSure (Vector i)) (sym (same_state (g.S.Dir.told c.loop-k.site) (g.S.Dir.told c.goes_further.new.site) (c.goes_further.ensures.stands tells))) (c.loop-k.invariant.sure tells i under)) (c.in_ok-goes_further.ensures.yes tells c.if-branch.true) j below;

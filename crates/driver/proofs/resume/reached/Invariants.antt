@@ -12,6 +12,8 @@ invariant-loop-k g l =
     record {
       few : l.k ≤ l.most;
       none_running : (g.S.Site.seen l.site).running ≡ [];
+      seen : g.S.Site.seen l.site ≡ g.S.Site.seen l.fn.site;
+      given : g.S.Dir.tells → g.S.Site.given l.site ≡ g.S.Site.given l.fn.site;
       stands : g.S.Dir.tells → Through (Both (λ (s : State). s ≡ files old)) old new;
       firm : g.S.Dir.tells → AllFirm (files new);
       sure : g.S.Dir.tells → (j : ℕ) → j ≤ l.k → IsSure (Vector j) (files new);

@@ -1,3 +1,9 @@
+use Rattle.driver.proofs.Logging.{none_logs}
+use Rattle.conf.specs.declared.commands.Command.TheVariants.{Plain}
+use Rattle.driver.specs.Logged.{LogsRun}
+use Rattle.driver.specs.declared.outcome.Outcome.TheVariants.{Usage}
+use Rattle.mining.proofs.Failures.{quiet_done}
+use Rattle.std.proofs.Common.{refl}
 use Rattle.std.proofs.Common.{◌≡◌, ◌∙◌, ℕ, true, List, map, None, Some, sym, subst}
 use Rattle.std.proofs.lemmas.Bool.{false≢true}
 use Rattle.std.specs.String.{string_bytes}
@@ -83,3 +89,35 @@ returns-in-None-clause-refused g c =
 pub returns-in-None-clause-acked : goal.returns-in-None-clause-acked
 returns-in-None-clause-acked g c =
     λ conf had mean mines tells is. c.run_over-in-None.ensures.acked (subst (λ (read : Settings). is_mining read.command ≡ true) (mean_one (map string_bytes c.args.words.now) conf c.in-Ok.conf mean c.in-Ok.ensures.accepted) mines) had tells is
+
+pub returns-in-Err-clause-log : goal.returns-in-Err-clause-log
+returns-in-Err-clause-log g c =
+    λ conf mean k after. none_logs g.S.Dir.tells g.S.Site.gives conf k (g.S.Site.seen c.args.site.now) (g.S.Site.seen c.args.site.now) (g.S.Site.given c.args.site.now) (g.S.Site.given c.args.site.now) (g.S.Dir.told c.args.site.now) (Usage c.in-Err.usage.word) refl (λ tells. refl)
+
+pub returns-in-Err-clause-answers : goal.returns-in-Err-clause-answers
+returns-in-Err-clause-answers g c =
+    quiet_done (g.S.Site.seen c.args.site.now) (g.S.Site.seen c.args.site.now) refl
+
+pub returns-then-ne-clause-log : goal.returns-then-ne-clause-log
+returns-then-ne-clause-log g c =
+    λ conf mean k after. none_logs g.S.Dir.tells g.S.Site.gives conf k (g.S.Site.seen c.args.site.now) (g.S.Site.seen c.args.site.now) (g.S.Site.given c.args.site.now) (g.S.Site.given c.args.site.now) (g.S.Dir.told c.args.site.now) (Usage c.form_word.result) refl (λ tells. refl)
+
+pub returns-then-ne-clause-answers : goal.returns-then-ne-clause-answers
+returns-then-ne-clause-answers g c =
+    quiet_done (g.S.Site.seen c.args.site.now) (g.S.Site.seen c.args.site.now) refl
+
+pub returns-in-Some-clause-log : goal.returns-in-Some-clause-log
+returns-in-Some-clause-log g c =
+    λ conf mean. subst (λ (read : Settings). LogsRun g.S.Dir.tells g.S.Site.gives read (g.S.Dir.told c.args.site.now) (g.S.Dir.told c.run_over.new.site) (g.S.Site.seen c.args.site.now) (g.S.Site.seen c.run_over.new.site) (g.S.Site.given c.args.site.now) (g.S.Site.given c.run_over.new.site) c.run_over.result) (mean_one (map string_bytes c.args.words.now) c.in-Ok.conf conf c.in-Ok.ensures.accepted mean) c.run_over.ensures.log
+
+pub returns-in-Some-clause-idle : goal.returns-in-Some-clause-idle
+returns-in-Some-clause-idle g c =
+    λ conf mean plain. c.run_over.ensures.idle (subst (λ (read : Settings). read.command ≡ Plain) (mean_one (map string_bytes c.args.words.now) conf c.in-Ok.conf mean c.in-Ok.ensures.accepted) plain)
+
+pub returns-in-None-clause-log : goal.returns-in-None-clause-log
+returns-in-None-clause-log g c =
+    λ conf mean. subst (λ (read : Settings). LogsRun g.S.Dir.tells g.S.Site.gives read (g.S.Dir.told c.args.site.now) (g.S.Dir.told c.run_over-in-None.new.site) (g.S.Site.seen c.args.site.now) (g.S.Site.seen c.run_over-in-None.new.site) (g.S.Site.given c.args.site.now) (g.S.Site.given c.run_over-in-None.new.site) c.run_over-in-None.result) (mean_one (map string_bytes c.args.words.now) c.in-Ok.conf conf c.in-Ok.ensures.accepted mean) c.run_over-in-None.ensures.log
+
+pub returns-in-None-clause-idle : goal.returns-in-None-clause-idle
+returns-in-None-clause-idle g c =
+    λ conf mean plain. c.run_over-in-None.ensures.idle (subst (λ (read : Settings). read.command ≡ Plain) (mean_one (map string_bytes c.args.words.now) conf c.in-Ok.conf mean c.in-Ok.ensures.accepted) plain)

@@ -1,3 +1,6 @@
+use Rattle.driver.proofs.Logging.{outcome_told}
+use Rattle.job.specs.Failing.{gained}
+use Rattle.driver.specs.Logged.{LogsRun, TellsOfOutcome}
 use Rattle.std.proofs.Common.{◌∙◌, sym}
 use Rattle.driver.proofs.RunLemmas.{if_done, none_done, not_done}
 use Rattle.std.proofs.Common.{IfSome, List, ℕ, subst}
@@ -29,3 +32,19 @@ returns-in-Ok-clause-done g c =
 pub returns-in-Err-clause-done : goal.returns-in-Err-clause-done
 returns-in-Err-clause-done g c =
     none_done g.S.Site.gives g.S.Dir.tells (g.S.Dir.told c.args.site.now) (g.S.Dir.told c.mine.new.site) (g.S.Console.said c.args.site.now) (g.S.Console.said c.mine.new.site) _ c.args.conf.now (g.E.Source.left c.args.edges.now) (λ is. not_done c.in-Err.stop (sym c.into.ensures ∙ is)) c.requires.mines
+
+pub returns-in-Ok-clause-log : goal.returns-in-Ok-clause-log
+returns-in-Ok-clause-log g c =
+    c.in-Ok.ensures.log
+
+pub returns-in-Err-clause-log : goal.returns-in-Err-clause-log
+returns-in-Err-clause-log g c =
+    subst (λ (o : Outcome). LogsRun g.S.Dir.tells g.S.Site.gives c.args.conf.now (g.S.Dir.told c.args.site.now) (g.S.Dir.told c.mine.new.site) (g.S.Site.seen c.args.site.now) (g.S.Site.seen c.mine.new.site) (g.S.Site.given c.args.site.now) (g.S.Site.given c.mine.new.site) o) (sym c.into.ensures) c.in-Err.ensures.log
+
+pub returns-in-Ok-clause-answers : goal.returns-in-Ok-clause-answers
+returns-in-Ok-clause-answers g c =
+    c.in-Ok.ensures.answers
+
+pub returns-in-Err-clause-answers : goal.returns-in-Err-clause-answers
+returns-in-Err-clause-answers g c =
+    subst (λ (o : Outcome). TellsOfOutcome (gained (g.S.Site.seen c.args.site.now).log (g.S.Site.seen c.mine.new.site).log) o) (sym c.into.ensures) (outcome_told (gained (g.S.Site.seen c.args.site.now).log (g.S.Site.seen c.mine.new.site).log) c.in-Err.stop c.in-Err.ensures.answers)

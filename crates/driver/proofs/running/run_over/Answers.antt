@@ -1,3 +1,4 @@
+use Rattle.driver.proofs.Logging.{none_logs, plain_told}
 use Rattle.std.proofs.Common.{◌∙◌, sym, ap, subst}
 use Rattle.std.proofs.lemmas.Bool.{false≢true}
 use Rattle.dir_disk.specs.Moments.{EachImage, Through, Told, files}
@@ -51,3 +52,19 @@ returns-in-Plain-clause-done g c =
 pub run_mining-requires-clause-mines : goal.run_mining-requires-clause-mines
 run_mining-requires-clause-mines g c =
     mines_other c.args.conf.now.command c.in_default.not-Plain
+
+pub returns-in-Plain-clause-log : goal.returns-in-Plain-clause-log
+returns-in-Plain-clause-log g c =
+    λ k after. none_logs g.S.Dir.tells g.S.Site.gives c.args.conf.now k (g.S.Site.seen c.args.site.now) (g.S.Site.seen c.label_nodes.new.console) (g.S.Site.given c.args.site.now) (g.S.Site.given c.label_nodes.new.console) (g.S.Dir.told c.label_nodes.new.console) c.label_nodes.result (g.met.S.Site.beside_console c.label_nodes.new.console c.args.site.now c.label_nodes.ensures.beside).0 (λ tells. ((g.met.S.Site.beside_console c.label_nodes.new.console c.args.site.now c.label_nodes.ensures.beside).1 tells).0)
+
+pub returns-in-Plain-clause-answers : goal.returns-in-Plain-clause-answers
+returns-in-Plain-clause-answers g c =
+    plain_told (g.S.Site.seen c.args.site.now) (g.S.Site.seen c.label_nodes.new.console) c.label_nodes.result (g.met.S.Site.beside_console c.label_nodes.new.console c.args.site.now c.label_nodes.ensures.beside).0 c.label_nodes.ensures.own
+
+pub returns-in-Plain-clause-idle : goal.returns-in-Plain-clause-idle
+returns-in-Plain-clause-idle g c =
+    λ is. (g.met.S.Site.beside_console c.label_nodes.new.console c.args.site.now c.label_nodes.ensures.beside).0
+
+pub returns-in_default-clause-idle : goal.returns-in_default-clause-idle
+returns-in_default-clause-idle g c =
+    λ is. absurd (c.in_default.not-Plain is)

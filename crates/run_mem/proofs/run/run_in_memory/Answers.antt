@@ -7,7 +7,7 @@ use Rattle.flow.proofs.Ends.{bundled_follow}
 use Rattle.flow.specs.Children.{bundled}
 use Rattle.flow.specs.Held.{HoldsIterates}
 use Rattle.mining.specs.Flow.{mining_of, most_of}
-use Rattle.run_mem.proofs.Empty.{each_at_end, empty_begins, empty_is_kept, written_after}
+use Rattle.run_mem.proofs.Empty.{answers_after, each_at_end, empty_begins, empty_is_kept, logs_after, written_after}
 use Rattle.run_mem.proofs.run.run_in_memory.Goals as goal
 
 pub returns-clause-iterates : goal.returns-clause-iterates
@@ -23,3 +23,11 @@ returns-clause-written g c =
     let silent : Some c.new-site.result.voice.said ≡ Some [] = ap (λ (m : Memory). Some m.voice.said) c.new-site.ensures.fresh in
     written_after conf accepted None _ _ _ _ silent
     (c.run-outcome.ensures.written conf accepted None asks c.new-site.ensures.tells bundled_follow (empty_is_kept (mining_of bundled conf accepted) _ empty) (empty_begins (most_of conf conf.command) _ empty) is)
+
+pub returns-clause-log : goal.returns-clause-log
+returns-clause-log g c =
+    λ conf mean. logs_after bundled conf _ _ _ _ _ _ _ _ (ap (λ (m : Memory). m.seen) c.new-site.ensures.fresh) (ap (λ (m : Memory). m.given) c.new-site.ensures.fresh) (c.run-outcome.ensures.log conf mean None tt)
+
+pub returns-clause-answers : goal.returns-clause-answers
+returns-clause-answers g c =
+    answers_after _ _ _ (ap (λ (m : Memory). m.seen.log) c.new-site.ensures.fresh) c.run-outcome.ensures.answers
