@@ -2,7 +2,7 @@ ghost use Rattle.std.specs.Prelude.{◌≡◌, ◌≤◌, ◌∷◌, ◌++◌, �
 ghost use Rattle.std.specs.List.{list_all};
 ghost use Rattle.peg_base.specs.Names.{Names};
 ghost use Rattle.dir_disk.specs.State.{Content};
-ghost use Rattle.dir_disk.specs.Moments.{clock};
+ghost use Rattle.dir_disk.specs.Moments.{clock, files};
 ghost use Rattle.dir_mem.specs.Log.{calls_of, state_of, told_by};
 ghost use Rattle.dir_mem.specs.Sound.{HasNoTop, IsSoundState, ListsAll, is_listed};
 ghost use Rattle.dir_mem.specs.Traces.{content_of, member_of, shown};
@@ -239,6 +239,13 @@ fn place_before(steps: &[Step], count: u64, call: u64) -> usize
 
 impl MemDir {
     ghost use Rattle.dir_mem.specs.Memory.{fail_of, faults_of, lent_of, told_of};
+
+    /// The files that are there now. It is no call.
+    pub fn files(&self, alloc: Global) -> Result<Image, NoMemory>
+        ensures { IfOk result (λ image. (path : Names) → image_of image path ≡ (files (told_of self.now) path).now) }
+    {
+        image_at(alloc, &self.steps, &self.paths, View::Now)
+    }
 
     /// Images that a stop right before the call of this number might leave; where that call wasn't made yet, a stop now:
     /// the image of what is there, the one of the oldest that each path may have, the one of the newest, and for each path

@@ -15,6 +15,3 @@ pub use images::Image;
 pub use lending::Loan;
 pub use mem_dir::MemDir;
 pub use traces::GARBAGE;
-
-#[cfg(test)]
-mod tests;

@@ -23,7 +23,8 @@ const DEEPEST: usize = 8;
 fn is_in_way(steps: &[Step], place: &Path, path: &Path) -> bool
     ensures { result ≡ is_in_way (state_of steps.now) place.now path.now }
 {
-    content_at(steps, path).is_some() && *path != *place && (path.under(place) || place.under(path))
+    // The log is searched last, and for the few paths near the place only.
+    *path != *place && (path.under(place) || place.under(path)) && content_at(steps, path).is_some()
 }
 
 /// Whether a file is at the path, at or under the top.
