@@ -14,6 +14,3 @@ mod voice;
 pub use mem_site::MemSite;
 pub use order::Order;
 pub use roles::Roles;
-
-#[cfg(test)]
-mod tests;
