@@ -1,6 +1,6 @@
 -- The log of a run is that of its calls.
-use Rattle.std.proofs.Common.{◌≡◌, ℕ, ◌+◌, ◌^◌, ◌<◌, ◌≤◌, List, [], ◌++◌, None, Some, refl, sym, ◌∙◌, subst, arith}
-use Rattle.std.specs.Prelude.{Bool, IfErr, OnOk, Option, Result, Ok, Err, true, false}
+use Rattle.std.proofs.Common.{◌≡◌, ℕ, ◌^◌, ◌<◌, ◌≤◌, List, [], None, Some, refl, sym, subst, arith}
+use Rattle.std.specs.Prelude.{Bool, OnOk, Option, Result, Ok, Err, true, false}
 use Rattle.std.specs.Result.{IsErrAnd}
 use Rattle.dir_disk.specs.State.{IsSound, State}
 use Rattle.dir_disk.specs.Moments.{Both, Through, Told, files}
@@ -16,9 +16,8 @@ use Rattle.mining.specs.declared.place.Place.TheVariants.{Vector}
 use Rattle.mining.specs.declared.stop.Stop.{Stop}
 use Rattle.mining.specs.declared.stop.Stop.TheVariants as Why
 use Rattle.mining.specs.Between.{IsSure, KeepsVectors}
-use Rattle.mining.specs.Failures.{IsOfNoTask, NoneFailed, TellsOfAnswer, TellsOfStop}
-use Rattle.mining.specs.Flow.{most_of}
-use Rattle.mining.specs.Jobs.{FinishesPast, FinishesWithin, GainsPast, GainsWithin, rank_after, rank_behind, rank_from, rank_of_base}
+use Rattle.mining.specs.Failures.{IsOfNoTask, TellsOfAnswer, TellsOfStop}
+use Rattle.mining.specs.Jobs.{FinishesWithin, GainsWithin, rank_after, rank_behind, rank_from, rank_of_base}
 use Rattle.mining.specs.Places.{folder_of}
 use Rattle.mining.specs.Stops.{IsOfDisk}
 use Rattle.mining.proofs.Failures.{cut_nothing, quiet_done, quiet_stop}
