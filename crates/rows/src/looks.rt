@@ -70,11 +70,8 @@ pub(crate) fn images(alloc: Global, world: &World, args: &[Vec<u8>]) -> Result<V
 /// All files that are there now.
 pub(crate) fn files(alloc: Global, world: &World) -> Result<Vec<u8>, Trouble> {
     let mut out = Vec::new(alloc);
-    let images = world.images(alloc, world.calls())?;
-    let Some(now) = images.first() else {
-        return Err(Trouble::Misread);
-    };
-    add_image(&mut out, now)?;
+    let now = world.files(alloc)?;
+    add_image(&mut out, &now)?;
     trimmed(out)
 }
 
@@ -120,11 +117,8 @@ pub(crate) fn parts(alloc: Global, world: &World, args: &[Vec<u8>]) -> Result<Ve
         whole: false,
         text: Vec::new(alloc),
     };
-    let images = world.images(alloc, world.calls())?;
-    let Some(now) = images.first() else {
-        return Err(Trouble::Misread);
-    };
-    contents.add_all(now, &folder)?;
+    let now = world.files(alloc)?;
+    contents.add_all(&now, &folder)?;
     if contents.whole {
         trimmed(contents.text)
     } else {

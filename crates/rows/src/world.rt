@@ -198,6 +198,11 @@ impl World {
         self.site.site.dir().content(path)
     }
 
+    /// The files that are there now.
+    pub(crate) fn files(&self, alloc: Global) -> Result<Image, Trouble> {
+        Ok(self.site.site.dir().files(alloc)?)
+    }
+
     /// What a stop before the call of this number may leave.
     pub(crate) fn images(&self, alloc: Global, moment: u64) -> Result<Vec<Image>, Trouble> {
         if moment > self.site.site.dir().calls() {
