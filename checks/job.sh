@@ -49,7 +49,10 @@ job 10000 "$here/failing"
 
 # The job is killed while it runs, and run again once its children have ended.
 for wait in 0.01 0.05 0.1 0.2 0.4; do
-    { timeout -s KILL "$wait" "$bench" job work file 1024 "$child" 1000; } 2>/dev/null
+    "$bench" job work file 1024 "$child" 1000 2>/dev/null &
+    run=$!
+    sleep "$wait"
+    { kill -KILL $run; wait $run; } 2>/dev/null
     sleep 0.3
     [ ! -e "$whole" ] || is_whole || fail "killed after $wait s: a folder that seems whole"
     job 1000 || fail "after a kill: status $?"
