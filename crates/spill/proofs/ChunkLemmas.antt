@@ -1,19 +1,17 @@
 -- Pairs dealt out to their parts.
-use Rattle.std.proofs.Common.{◌≡◌, ◌≢◌, ◌∙◌, ap, sym, refl, subst, ℕ, ◌+◌, ◌-◌, ◌<◌, ◌==◌, Bool, true, false, cond, ⊎_elim, List, [], ◌∷◌, ◌++◌, Some, None, length, get_or, set, map, replicate, take, drop, arith}
-use Rattle.std.specs.List.{position_or_len}
+use Rattle.std.proofs.Common.{◌≡◌, ◌∙◌, ap, sym, refl, subst, ℕ, ◌+◌, ◌<◌, ◌≤◌, ◌==◌, Bool, true, false, cond, ⊎_elim, List, [], ◌∷◌, ◌++◌, length, get_or, set, map, replicate, take, drop, arith}
+use Rattle.std.specs.List.{All}
 use Rattle.std.proofs.lemmas.Bool.{cases_eq, eq-eqb, ne_eqb}
-use Rattle.std.proofs.lemmas.List.{append_assoc, drop_at, length-append, same_lists, length-set, get_or-set_same, get_or-set_other, append-nil, length-replicate, get_or-replicate}
-use Rattle.std.proofs.lemmas.List.Elements.{All-append, All-cons, All-drop, All-take, filter-append}
+use Rattle.std.proofs.lemmas.List.{append_assoc, drop_all, drop_at, drop_more, take_at, length-append, same_lists, length-set, get_or-set_same, get_or-set_other, append-nil, length-replicate, get_or-replicate}
+use Rattle.std.proofs.lemmas.List.Elements.{All-head, All-tail, filter-append}
 use Rattle.std.proofs.lemmas.List.FromFn.{get_or-map-range_with_len, length-map-range_with_len}
-use Rattle.memchr.specs.Find.{IsFirstByte, is_byte}
 use Rattle.partition.specs.Hash.{part_among}
-use Rattle.peg_text.specs.Pairs.{is_tab, key_of, value_of, pair_text}
-use Rattle.peg_text.specs.Records.{HasNoLf, records_of}
-use Rattle.peg_text.proofs.CursorLemmas.{IsSearched-none, all_searched, record_found, rest_unbroken, unended-some}
-use Rattle.peg_text.proofs.RecordLemmas.{records_of-line, records_of-unbroken}
-use Rattle.pairs.specs.Pairs.{Pair, pair_of, pairs_in, pairs_text}
+use Rattle.peg_text.specs.Pairs.{key_of, value_of, pair_text}
+use Rattle.peg_text.proofs.PairLemmas.{pairs_split_back}
+use Rattle.pairs.specs.Pairs.{Pair, IsPlain, pair_of, pairs_in, pairs_text}
 use Rattle.spill.specs.Runs.{of_part}
 use Rattle.spill.specs.Chunks.{parts_of}
+use Rattle.spill.specs.Lines.{line_length}
 
 -- ---- dealing
 
@@ -70,66 +68,107 @@ none_dealt reducers =
         get_or-replicate {A = List Pair} reducers k [] d below ∙ sym (get_or-map-range_with_len (λ (r : ℕ). of_part reducers r []) 0 reducers k k d below (omega arith))
 
 -- a line more: its pair goes to the end of its part
-pub dealt_line : (reducers : ℕ) (lists : List (List Pair)) (done : List Pair) (line key : List ℕ) (before after : List Pair) → lists ≡ parts_of reducers done → key ≡ key_of line → part_among key reducers < reducers → before ≡ get_or lists (part_among key reducers) [] → after ≡ before ++ pair_of line ∷ [] → set lists (part_among key reducers) after ≡ parts_of reducers (done ++ pair_of line ∷ [])
-dealt_line reducers lists done line key before after so_far is_key below is_before is_after =
+pub dealt_line : (reducers : ℕ) (lists : List (List Pair)) (done : List Pair) (p : Pair) (key : List ℕ) (before after : List Pair) → lists ≡ parts_of reducers done → key ≡ p.0 → part_among key reducers < reducers → before ≡ get_or lists (part_among key reducers) [] → after ≡ before ++ p ∷ [] → set lists (part_among key reducers) after ≡ parts_of reducers (done ++ p ∷ [])
+dealt_line reducers lists done p key before after so_far is_key below is_before is_after =
     let part : ℕ = part_among key reducers in
-    let p : Pair = pair_of line in
     let same : part ≡ part_among p.0 reducers = ap (λ (k : List ℕ). part_among k reducers) is_key in
     let is_part : before ≡ of_part reducers part done = is_before ∙ ap (λ (ls : List (List Pair)). get_or ls part []) so_far ∙ part_at reducers part done below in
     ap (λ (ls : List (List Pair)). set ls part after) so_far ∙ ap (λ (ps : List Pair). set (parts_of reducers done) part ps) (is_after ∙ ap (λ (ps : List Pair). ps ++ p ∷ []) is_part) ∙ ap (λ (n : ℕ). set (parts_of reducers done) n (of_part reducers n done ++ p ∷ [])) same ∙ dealt_more reducers done p (subst (λ (n : ℕ). n < reducers) same below)
 
--- the pairs of a text are dealt but for those of what is left
-abbrev pub IsDealt : ℕ → List (List Pair) → List ℕ → List ℕ → Type 0
-IsDealt reducers lists left text =
-    (done : List Pair) × (lists ≡ parts_of reducers done) × (done ++ pairs_in left ≡ pairs_in text)
-
-pub dealt_more_of : (reducers : ℕ) (lists : List (List Pair)) (left text line rest key : List ℕ) (before after : List Pair) → IsDealt reducers lists left text → records_of left ≡ line ∷ records_of rest → key ≡ key_of line → part_among key reducers < reducers → before ≡ get_or lists (part_among key reducers) [] → after ≡ before ++ pair_of line ∷ [] → IsDealt reducers (set lists (part_among key reducers) after) rest text
-dealt_more_of reducers lists left text line rest key before after dealt first is_key below is_before is_after = (
-  dealt.0 ++ pair_of line ∷ [],
-  dealt_line reducers lists dealt.0 line key before after dealt.1 is_key below is_before is_after,
-  append_assoc dealt.0 (pair_of line ∷ []) (pairs_in rest) ∙ ap (λ (lines : List (List ℕ)). dealt.0 ++ map pair_of lines) (sym first) ∙ dealt.2,
-)
-
-pub dealt_start : (reducers : ℕ) (lists : List (List Pair)) (text : List ℕ) → lists ≡ replicate reducers [] → IsDealt reducers lists text text
-dealt_start reducers lists text none = ([], none ∙ none_dealt reducers, refl)
-
-pub dealt_end : (reducers : ℕ) (lists : List (List Pair)) (left text : List ℕ) → IsDealt reducers lists left text → records_of left ≡ [] → lists ≡ parts_of reducers (pairs_in text)
-dealt_end reducers lists left text dealt none =
-    dealt.1 ∙ ap (parts_of reducers) (sym (append-nil dealt.0) ∙ ap (λ (lines : List (List ℕ)). dealt.0 ++ map pair_of lines) (sym none) ∙ dealt.2)
-
--- ---- the first record
-
-pub first_found : (text : List ℕ) (k : ℕ) → IsFirstByte (is_byte 10) text (Some k) → records_of text ≡ take k text ∷ records_of (drop (k + 1) text)
-first_found text k first =
-    let count : k ≡ 0 + k - 0 = omega arith in
-    let past : 0 + k + 1 ≡ k + 1 = omega arith in
-    let begins = record_found text text 0 0 k text (take k text) (IsSearched-none text 0 (omega arith)) refl refl (ap (λ (n : ℕ). take n text) count) first in
-    ap records_of (begins.whole ∙ ap (λ (n : ℕ). take k text ++ 10 ∷ drop n text) past) ∙ records_of-line (take k text) (drop (k + 1) text) begins.unbroken
-
-pub found_unbroken : (text : List ℕ) (k : ℕ) → IsFirstByte (is_byte 10) text (Some k) → HasNoLf (take k text)
-found_unbroken text k first =
-    let count : k ≡ 0 + k - 0 = omega arith in
-    (record_found text text 0 0 k text (take k text) (IsSearched-none text 0 (omega arith)) refl refl (ap (λ (n : ℕ). take n text) count) first).unbroken
-
-pub all_unbroken : (text : List ℕ) → IsFirstByte (is_byte 10) text None → HasNoLf text
-all_unbroken text none =
-    rest_unbroken text 0 (all_searched text text 0 0 (IsSearched-none text 0 (omega arith)) refl none)
-
-pub none_found : (text : List ℕ) → IsFirstByte (is_byte 10) text None → 0 < length text → records_of text ≡ text ∷ []
-none_found text none some =
-    records_of-unbroken text (rest_unbroken text 0 (all_searched text text 0 0 (IsSearched-none text 0 (omega arith)) refl none)) ∙ unended-some text some
-
 -- ---- lines of pairs
 
--- the first line of a text of pairs has a TAB, and what stands after it is a text of pairs
-pub whole_line : (left line rest : List ℕ) → pairs_text (pairs_in left) ≡ left → records_of left ≡ line ∷ records_of rest → HasNoLf line → rest ≡ drop (length line + 1) left → (pair_text (key_of line) (value_of line) ≡ line) × (pairs_text (pairs_in rest) ≡ rest)
-whole_line left line rest lines first unbroken is_rest =
-    let n : ℕ = position_or_len is_tab line in
-    let text : List ℕ = pair_text (key_of line) (value_of line) in
-    let more : List ℕ = pairs_text (pairs_in rest) in
-    let plain : HasNoLf text = All-append (λ b. b ≢ 10) (key_of line) (9 ∷ value_of line) (All-take (λ b. b ≢ 10) n line unbroken) (All-cons (λ b. b ≢ 10) 9 (value_of line) (λ is. absurd (omega (arith, is))) (All-drop (λ b. b ≢ 10) (n + 1) line unbroken)) in
-    let goes_on : left ≡ text ++ 10 ∷ more = sym lines ∙ ap (λ (rs : List (List ℕ)). pairs_text (map pair_of rs)) first ∙ append_assoc text (10 ∷ []) more in
-    let both : text ∷ records_of more ≡ line ∷ records_of rest = sym (records_of-line text more plain) ∙ ap records_of (sym goes_on) ∙ first in
-    let same : text ≡ line = cc in
-    let past : rest ≡ more = is_rest ∙ ap (λ (l : List ℕ). drop (length l + 1) left) (sym same) ∙ ap (drop (length text + 1)) (goes_on ∙ sym (append_assoc text (10 ∷ []) more)) ∙ drop_at (text ++ 10 ∷ []) more (length text + 1) (length-append text (10 ∷ [])) in
-    (same, sym past)
+-- the line of the first pair, and what stands after its LF
+pub record IsFirst (left : List ℕ) (size : ℕ) (p : Pair) (ps : List Pair) : Type 0 where
+  pub inside : size < length left
+  pub line : take size left ≡ pair_text p.0 p.1
+  pub rest : drop (size + 1) left ≡ pairs_text ps
+
+pub first_is : (left : List ℕ) (size : ℕ) (p : Pair) (ps : List Pair) → left ≡ pairs_text (p ∷ ps) → size ≡ line_length p → IsFirst left size p ps
+first_is left size p ps is long =
+    let text : List ℕ = pair_text p.0 p.1 in
+    let more : List ℕ = pairs_text ps in
+    let goes_on : left ≡ text ++ 10 ∷ more = is ∙ append_assoc text (10 ∷ []) more in
+    let whole = ap length goes_on ∙ length-append text (10 ∷ more) in
+    record {
+      inside = omega (arith, whole, long);
+      line = ap (λ (n : ℕ). take n left) long ∙ ap (take (length text)) goes_on ∙ take_at text (10 ∷ more) (length text) refl;
+      rest = ap (λ (n : ℕ). drop (n + 1) left) long ∙ ap (drop (length text + 1)) is ∙ drop_at (text ++ 10 ∷ []) more (length text + 1) (length-append text (10 ∷ []));
+    }
+
+-- the line of a pair is read as that pair
+pub key_again : (p : Pair) (line : List ℕ) → IsPlain p → line ≡ pair_text p.0 p.1 → key_of line ≡ p.0
+key_again p line plain is = ap key_of is ∙ (pairs_split_back p.0 p.1 plain.key_tab).0
+
+pub pair_again : (p : Pair) (line : List ℕ) → IsPlain p → line ≡ pair_text p.0 p.1 → pair_of line ≡ p
+pair_again p line plain is =
+    let value : value_of line ≡ p.1 = ap value_of is ∙ (pairs_split_back p.0 p.1 plain.key_tab).1 in
+    ap (λ (k : List ℕ). let q : Pair = (k, value_of line) in q) (key_again p line plain is) ∙ ap (λ (v : List ℕ). let q : Pair = (p.0, v) in q) value
+
+pub whole_again : (p : Pair) (line : List ℕ) → IsPlain p → line ≡ pair_text p.0 p.1 → pair_text (key_of line) (value_of line) ≡ line
+whole_again p line plain is = ap (λ (q : Pair). pair_text q.0 q.1) (pair_again p line plain is) ∙ sym is
+
+-- ---- what is left
+
+-- the first pairs of a text are dealt, and what is left of the text has the others, as lines of these lengths
+pub record IsDealt (reducers : ℕ) (lists : List (List Pair)) (left sizes : List ℕ) (pairs : List Pair) : Type 0 where
+  pub done : List Pair
+  pub todo : List Pair
+  pub dealt : lists ≡ parts_of reducers done
+  pub whole : done ++ todo ≡ pairs
+  pub text : left ≡ pairs_text todo
+  pub plain : All IsPlain todo
+  pub long : sizes ≡ map line_length todo
+
+pub dealt_start : (reducers : ℕ) (lists : List (List Pair)) (text sizes : List ℕ) → lists ≡ replicate reducers [] → pairs_text (pairs_in text) ≡ text → All IsPlain (pairs_in text) → sizes ≡ map line_length (pairs_in text) → IsDealt reducers lists text sizes (pairs_in text)
+dealt_start reducers lists text sizes none lines plain is =
+    record { done = []; todo = pairs_in text; dealt = none ∙ none_dealt reducers; whole = refl; text = sym lines; plain = plain; long = is }
+
+pub dealt_end : (reducers : ℕ) (lists : List (List Pair)) (left : List ℕ) (pairs : List Pair) → IsDealt reducers lists left [] pairs → lists ≡ parts_of reducers pairs
+dealt_end reducers lists left pairs so_far = by_cases so_far.todo so_far.whole so_far.long
+  where
+    by_cases : (todo : List Pair) → so_far.done ++ todo ≡ pairs → [] ≡ map line_length todo → lists ≡ parts_of reducers pairs
+    by_cases [] whole long = so_far.dealt ∙ ap (parts_of reducers) (sym (append-nil so_far.done) ∙ whole)
+    by_cases (p ∷ ps) whole long = let none = ap length long in absurd (omega (arith, none))
+
+-- the next pair, and what is left behind it
+pub record HasNext (reducers : ℕ) (lists : List (List Pair)) (left : List ℕ) (size : ℕ) (sizes : List ℕ) (pairs : List Pair) : Type 0 where
+  pub p : Pair
+  pub plain : IsPlain p
+  pub first : (size < length left) × (take size left ≡ pair_text p.0 p.1)
+  pub next : (key : List ℕ) (before after : List Pair) → key ≡ p.0 → part_among key reducers < reducers → before ≡ get_or lists (part_among key reducers) [] → after ≡ before ++ p ∷ [] → IsDealt reducers (set lists (part_among key reducers) after) (drop (size + 1) left) sizes pairs
+
+pub dealt_next : (reducers : ℕ) (lists : List (List Pair)) (left : List ℕ) (size : ℕ) (sizes : List ℕ) (pairs : List Pair) → IsDealt reducers lists left (size ∷ sizes) pairs → HasNext reducers lists left size sizes pairs
+dealt_next reducers lists left size sizes pairs so_far =
+    by_cases so_far.todo so_far.whole so_far.text so_far.plain so_far.long
+  where
+    by_cases : (todo : List Pair) → so_far.done ++ todo ≡ pairs → left ≡ pairs_text todo → All IsPlain todo → size ∷ sizes ≡ map line_length todo → HasNext reducers lists left size sizes pairs
+    by_cases [] whole text plain is = let none = ap length is in absurd (omega (arith, none))
+    by_cases (p ∷ ps) whole text plain is =
+        let size_is : size ≡ line_length p = ap (λ (ns : List ℕ). get_or ns 0 0) is in
+        let others : sizes ≡ map line_length ps = ap (drop 1) is in
+        let first = first_is left size p ps text size_is in
+        record {
+          p = p;
+          plain = All-head IsPlain p ps plain;
+          first = (first.inside, first.line);
+          next =
+              λ key before after is_key below is_before is_after.
+              record {
+                done = so_far.done ++ p ∷ [];
+                todo = ps;
+                dealt = dealt_line reducers lists so_far.done p key before after so_far.dealt is_key below is_before is_after;
+                whole = append_assoc so_far.done (p ∷ []) ps ∙ whole;
+                text = first.rest;
+                plain = All-tail IsPlain p ps plain;
+                long = others;
+              };
+        }
+
+-- where some lengths of lines were gone through
+pub dealt_here : (reducers : ℕ) (lists : List (List Pair)) (left sizes : List ℕ) (at : ℕ) (pairs : List Pair) → IsDealt reducers lists left (drop at sizes) pairs → at < length sizes → HasNext reducers lists left (get_or sizes at 0) (drop (at + 1) sizes) pairs
+dealt_here reducers lists left sizes at pairs so_far inside =
+    dealt_next reducers lists left (get_or sizes at 0) (drop (at + 1) sizes) pairs (subst (λ (ns : List ℕ). IsDealt reducers lists left ns pairs) (drop_more sizes at 0 inside) so_far)
+
+pub dealt_all : (reducers : ℕ) (lists : List (List Pair)) (left sizes : List ℕ) (at : ℕ) (pairs : List Pair) → IsDealt reducers lists left (drop at sizes) pairs → length sizes ≤ at → lists ≡ parts_of reducers pairs
+dealt_all reducers lists left sizes at pairs so_far all =
+    dealt_end reducers lists left pairs (subst (λ (ns : List ℕ). IsDealt reducers lists left ns pairs) (drop_all at sizes all) so_far)

@@ -1,8 +1,8 @@
 -- The pairs that a spill holds as text, and the runs of a flush by their parts.
-use Rattle.std.proofs.Common.{◌≡◌, ◌∙◌, ap, sym, refl, subst, ℕ, ◌+◌, ◌*◌, ◌<◌, ◌≤◌, List, [], ◌∷◌, ◌++◌, Some, length, get_or, arith, length-append}
+use Rattle.std.proofs.Common.{◌≡◌, ◌∙◌, ap, sym, refl, subst, ℕ, ◌+◌, ◌*◌, ◌<◌, List, [], ◌∷◌, ◌++◌, Some, length, map, get_or, arith, length-append}
 use Rattle.std.specs.List.{All, sum_by}
-use Rattle.std.proofs.lemmas.List.{length-map, length_push, get_or-map, append-nil}
-use Rattle.std.proofs.lemmas.List.Elements.{All-push, All-nil}
+use Rattle.std.proofs.lemmas.List.{length-map, map-append, get_or-map, append-nil}
+use Rattle.std.proofs.lemmas.List.Elements.{All-push}
 use Rattle.std.proofs.lemmas.List.Sorted.{length_permutation}
 use Rattle.std.proofs.lemmas.List.Sums.{sum_by-cons}
 use Rattle.peg_text.specs.Pairs.{pair_line}
@@ -16,6 +16,7 @@ use Rattle.pairs.proofs.PairLemmas.{pairs_read_back, texts_follow, sorted_is_per
 use Rattle.pieces.specs.Pieces.{IsVacant}
 use Rattle.spill.specs.Runs.{of_part, run_of, new_runs, HasPairs, HasRuns, StandsBesideRuns, StandsButRuns}
 use Rattle.spill.specs.Chunks.{parts_of, sorted_parts_of, HasItems, list_at, StandsBesideLists, StandsButLists, HasLists, AreListsFree, AreListsVacant, AreNoted}
+use Rattle.spill.specs.Lines.{line_length}
 use Rattle.spill.specs.Spills.{IsWell}
 use Rattle.spill.proofs.ChunkLemmas.{part_at, length-parts_of}
 use Rattle.spill.proofs.WritingLemmas.{has_place}
@@ -30,24 +31,18 @@ pub pairs_pushed : (text : List ℕ) (p : Pair) → pairs_text (pairs_in text) �
 pairs_pushed text p lines plain fits =
     ap pairs_in (sym (text_pushed text p lines)) ∙ pairs_read_back (pairs_in text ++ p ∷ []) (All-push IsPlain (pairs_in text) p plain fits)
 
-pub well_pushed : (text : List ℕ) (count reducers runs : ℕ) (folder : Names) (p : Pair) → IsWell text count reducers runs folder → IsPlain p → IsWell (text ++ pair_line p.0 p.1) (count + 1) reducers runs folder
-well_pushed text count reducers runs folder p well fits =
+pub well_pushed : (text sizes : List ℕ) (reducers runs : ℕ) (folder : Names) (p : Pair) → IsWell text sizes reducers runs folder → IsPlain p → IsWell (text ++ pair_line p.0 p.1) (sizes ++ line_length p ∷ []) reducers runs folder
+well_pushed text sizes reducers runs folder p well fits =
     let pushed : pairs_in (text ++ pair_line p.0 p.1) ≡ pairs_in text ++ p ∷ [] = pairs_pushed text p well.lines well.plain fits in
-    let long = length_push (pairs_in text) p in
-    let whole = ap length pushed in
     record {
       lines = ap pairs_text pushed ∙ text_pushed text p well.lines;
       plain = subst (λ (ps : List Pair). All IsPlain ps) (sym pushed) (All-push IsPlain (pairs_in text) p well.plain fits);
-      counted = omega (arith, long, whole, well.counted);
+      measured = ap (λ (ns : List ℕ). ns ++ line_length p ∷ []) well.measured ∙ sym (map-append line_length (pairs_in text) (p ∷ [])) ∙ ap (map line_length) (sym pushed);
       some = well.some;
       few = well.few;
       each_part = well.each_part;
       short = well.short;
     }
-
-pub well_empty : (reducers runs : ℕ) (folder : Names) → 1 ≤ reducers → reducers ≤ 100000 → runs ≡ reducers → length folder < 8 → IsWell [] 0 reducers runs folder
-well_empty reducers runs folder some few each_part short =
-    record { lines = refl; plain = All-nil IsPlain; counted = refl; some = some; few = few; each_part = each_part; short = short }
 
 length-pair_line : (key value : List ℕ) → length (pair_line key value) ≡ length key + length value + 2
 length-pair_line key value =
@@ -64,11 +59,12 @@ length-pairs_text (p ∷ ps) =
     let sum = sum_by-cons (λ (q : Pair). length q.0 + length q.1) p ps in
     omega arith
 
-pub bytes_counted : (text : List ℕ) (count reducers runs : ℕ) (folder : Names) → IsWell text count reducers runs folder → length text ≡ sum_by (λ (p : Pair). length p.0 + length p.1) (pairs_in text) + 2 * count
-bytes_counted text count reducers runs folder well =
+pub bytes_counted : (text sizes : List ℕ) (reducers runs : ℕ) (folder : Names) → IsWell text sizes reducers runs folder → length text ≡ sum_by (λ (p : Pair). length p.0 + length p.1) (pairs_in text) + 2 * length sizes
+bytes_counted text sizes reducers runs folder well =
     let long = ap length well.lines in
     let parts = length-pairs_text (pairs_in text) in
-    omega (arith, long, parts, well.counted)
+    let many : length sizes ≡ length (pairs_in text) = ap length well.measured ∙ length-map (pairs_in text) line_length in
+    omega (arith, long, parts, many)
 
 -- ---- the lists of the parts
 

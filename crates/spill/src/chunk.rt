@@ -1,12 +1,11 @@
-ghost use Rattle.std.specs.Prelude.{◌≡◌, ◌+◌, ◌<◌, ◌≤◌, [], ◌∷◌, drop, length, map, replicate, IfOk, IfSome, IsNone};
+ghost use Rattle.std.specs.Prelude.{◌≡◌, ◌+◌, ◌<◌, ◌≤◌, [], All, drop, length, map, replicate, take, IfOk};
 ghost use Rattle.peg_text.specs.Pairs.{key_of};
-ghost use Rattle.peg_text.specs.Records.{HasNoLf, records_of};
-ghost use Rattle.pairs.specs.Pairs.{pairs_in, pairs_text};
+ghost use Rattle.pairs.specs.Pairs.{IsPlain, pairs_in, pairs_text};
 ghost use Rattle.pairs.specs.Prefixes.{prefix_of};
 ghost use Rattle.spill.specs.Chunks.{parts_of, sorted_parts_of};
+ghost use Rattle.spill.specs.Lines.{line_length};
 
 use crate::line::Line;
-use memchr::memchr;
 use pairs::measured_key;
 use partition::part_of;
 use peg_text::NoMemory;
@@ -27,19 +26,13 @@ fn empty_parts<'a>(alloc: Global, reducers: u32) -> Result<Vec<Lines<'a>>, NoMem
     Ok(parts)
 }
 
-/// The first record of a text, and what stands after it; nothing where the text is empty.
-fn first_record(text: &[u8]) -> Option<(&[u8], &[u8])>
-    ensures first { IfSome result (λ cut. records_of text.now ≡ cut.0.now ∷ records_of cut.1.now) }
-    ensures unbroken { IfSome result (λ cut. HasNoLf cut.0.now) }
-    ensures rest { IfSome result (λ cut. cut.1.now ≡ drop (length cut.0.now + 1) text.now) }
-    ensures shorter { IfSome result (λ cut. length cut.1.now < length text.now) }
-    ensures none { IsNone result → records_of text.now ≡ [] }
+/// The first bytes of a text, and what stands after the byte behind them.
+fn first_line(text: &[u8], size: usize) -> (&[u8], &[u8])
+    requires { size < length text.now }
+    ensures line { result.0.now ≡ take size text.now }
+    ensures rest { result.1.now ≡ drop (size + 1) text.now }
 {
-    match memchr(b'\n', text) {
-        Some(length) => Some((&text[..length], &text[length + 1..])),
-        None if text.is_empty() => None,
-        None => Some((text, &text[text.len()..])),
-    }
+    (&text[..size], &text[size + 1..])
 }
 
 /// The key of a line, and its prefix.
@@ -51,16 +44,24 @@ fn key_and_prefix(line: &[u8]) -> (&[u8], u64)
     (&line[..length], prefix)
 }
 
-/// The pairs of a text by their parts, in the order of the text.
-fn deal<'a>(alloc: Global, text: &'a [u8], reducers: u32) -> Result<Vec<Lines<'a>>, NoMemory>
+/// The pairs of a text, whose lines have these lengths, by their parts, in the order of the text.
+fn deal<'a>(
+    alloc: Global,
+    text: &'a [u8],
+    sizes: &[u32],
+    reducers: u32,
+) -> Result<Vec<Lines<'a>>, NoMemory>
     requires some { 1 ≤ reducers }
     requires lines { pairs_text (pairs_in text.now) ≡ text.now }
+    requires plain { All IsPlain (pairs_in text.now) }
+    requires sizes { sizes.now ≡ map line_length (pairs_in text.now) }
     ensures { IfOk result
         (λ parts. map (λ pairs. pairs.items) parts.items ≡ parts_of reducers (pairs_in text.now)) }
 {
     let mut parts = empty_parts(alloc, reducers)?;
     let mut left = text;
-    while let Some((line, rest)) = first_record(left) {
+    for size in sizes {
+        let (line, rest) = first_line(left, *size as usize);
         let (key, prefix) = key_and_prefix(line);
         parts[part_of(key, reducers) as usize].push(Line::new(line, prefix))?;
         left = rest;
@@ -68,18 +69,21 @@ fn deal<'a>(alloc: Global, text: &'a [u8], reducers: u32) -> Result<Vec<Lines<'a
     Ok(parts)
 }
 
-/// The pairs of a text by their parts, each part sorted.
+/// The pairs of a text, whose lines have these lengths, by their parts, each part sorted.
 pub(crate) fn sorted_parts<'a>(
     alloc: Global,
     text: &'a [u8],
+    sizes: &[u32],
     reducers: u32,
 ) -> Result<Vec<Lines<'a>>, NoMemory>
     requires some { 1 ≤ reducers }
     requires lines { pairs_text (pairs_in text.now) ≡ text.now }
+    requires plain { All IsPlain (pairs_in text.now) }
+    requires sizes { sizes.now ≡ map line_length (pairs_in text.now) }
     ensures { IfOk result
         (λ parts. map (λ pairs. pairs.items) parts.items ≡ sorted_parts_of reducers (pairs_in text.now)) }
 {
-    let mut parts = deal(alloc, text, reducers)?;
+    let mut parts = deal(alloc, text, sizes, reducers)?;
     for pairs in parts.iter_mut() {
         pairs.sort_unstable();
     }

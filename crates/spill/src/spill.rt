@@ -1,7 +1,9 @@
-ghost use Rattle.std.specs.Prelude.{◌≡◌, ℕ, ◌+◌, ◌<◌, ◌≤◌, ◌↔◌, ◌++◌, [], length, map, All, IfOk, OnOk, OnErr, IsOk, IsTrue, replicate};
+ghost use Rattle.std.specs.Prelude.{◌≡◌, ℕ, ◌+◌, ◌<◌, ◌≤◌, ◌↔◌, ◌++◌, ◌∷◌, [], length, map, All, IfOk, OnOk, OnErr, IsOk, IsTrue, replicate};
 ghost use Rattle.dir_disk.specs.Causes.{HasCause};
 ghost use Rattle.dir_disk.specs.Moments.{Both, Through, files};
+ghost use Rattle.peg_text.specs.Pairs.{pair_line};
 ghost use Rattle.pairs.specs.Pairs.{IsPlain, pairs_in, pairs_text};
+ghost use Rattle.spill.specs.Lines.{line_length};
 ghost use Rattle.spill.specs.Runs.{new_runs, StandsBesideRuns, StandsButRuns, HasRuns};
 ghost use Rattle.spill.specs.Chunks.{sorted_parts_of, StandsBesideLists, StandsButLists, HasLists, AreListsFree, AreListsVacant, AreNoted};
 ghost use Rattle.spill.specs.Spills.{empty_spill, with_pair, bytes_held, pairs_at, runs_at, next_run, AreFree, AreVacant, number_after};
@@ -24,8 +26,8 @@ pub struct Spill {
     folder: Path,
     /// The pairs held, each as a line.
     text: Vec<u8>,
-    /// How many they are.
-    count: usize,
+    /// How many bytes each of these lines has, without its LF.
+    sizes: Vec<u32>,
     flushes: u64,
     /// The paths of the runs, by parts.
     runs: Vec<Vec<Path>>,
@@ -40,7 +42,7 @@ impl Model for Spill {
 
     ghost view = { λ s. record { limit = s.limit; reducers = s.reducers; folder = s.folder; pairs = pairs_in s.text.items; flushes = s.flushes; runs = map (λ paths. paths.items) s.runs.items } };
 
-    ghost invariant = { λ s. IsWell s.text.items s.count s.reducers (length s.runs.items) s.folder };
+    ghost invariant = { λ s. IsWell s.text.items s.sizes.items s.reducers (length s.runs.items) s.folder };
 }
 
 impl Spill {
@@ -58,20 +60,19 @@ impl Spill {
             reducers,
             folder: folder.copy(alloc)?,
             text: Vec::new(alloc),
-            count: 0,
+            sizes: Vec::new(alloc),
             flushes: 0,
             runs,
         })
     }
 
-    /// Adds a pair. Without memory the pairs held are as before.
+    /// Adds a pair. Without memory, or where its line would have 4 GiB or more, the pairs held are as before.
     pub fn push(&mut self, alloc: Global, key: &[u8], value: &[u8]) -> Result<(), NoMemory>
         requires { IsPlain (key.now, value.now) }
         ensures pushed { OnOk result (self.new ≡ with_pair (key.now, value.now) self.old) }
         ensures no_memory { OnErr result (self.new ≡ self.old) }
     {
-        write_pair(alloc, &mut self.text, key, value)?;
-        self.count += 1;
+        hold(alloc, &mut self.text, &mut self.sizes, key, value)?;
         Ok(())
     }
 
@@ -79,7 +80,7 @@ impl Spill {
     pub fn full(&self) -> bool
         ensures { IsTrue result ↔ (self.now.limit ≤ bytes_held self.now) }
     {
-        (self.text.len() - 2 * self.count) as u64 >= self.limit
+        (self.text.len() - 2 * self.sizes.len()) as u64 >= self.limit
     }
 
     /// Writes the pairs held as runs, one for each part that has some, and holds none then. Without pairs it makes no
@@ -108,7 +109,7 @@ impl Spill {
         ensures beside { D.beside dir.new ≡ D.beside dir.old }
         ensures cause { HasCause SpillFault.Disk (D.faults dir.old) (D.faults dir.new) result }
     {
-        if self.count == 0 {
+        if self.sizes.is_empty() {
             return Ok(());
         }
         let Some(next) = self.flushes.checked_add(1) else {
@@ -120,11 +121,12 @@ impl Spill {
             &self.folder,
             self.flushes,
             &self.text,
+            &self.sizes,
             self.reducers,
             &mut self.runs,
         )?;
         self.text.clear();
-        self.count = 0;
+        self.sizes.clear();
         self.flushes = next;
         Ok(())
     }
@@ -149,6 +151,34 @@ fn empty_runs(alloc: Global, reducers: u32) -> Result<Vec<Vec<Path>>, NoMemory>
     Ok(runs)
 }
 
+/// Appends a pair as a line, and the length of that line. Without memory, or where the line has 4 GiB or more, both are
+/// as before.
+fn hold(
+    alloc: Global,
+    text: &mut Vec<u8>,
+    sizes: &mut Vec<u32>,
+    key: &[u8],
+    value: &[u8],
+) -> Result<(), NoMemory>
+    ensures text { OnOk result (text.new.items ≡ text.old.items ++ pair_line key.now value.now) }
+    ensures size { OnOk result (sizes.new.items ≡ sizes.old.items ++ line_length (key.now, value.now) ∷ []) }
+    ensures text_kept { OnErr result (text.new.items ≡ text.old.items) }
+    ensures sizes_kept { OnErr result (sizes.new.items ≡ sizes.old.items) }
+{
+    let Ok(size) = u32::try_from(key.len() + value.len() + 1) else {
+        return Err(NoMemory);
+    };
+    let before = sizes.len();
+    sizes.push(size)?;
+    match write_pair(alloc, text, key, value) {
+        Ok(()) => Ok(()),
+        Err(fault) => {
+            sizes.truncate(before);
+            Err(fault)
+        }
+    }
+}
+
 /// Writes the runs of a chunk, and adds their paths to those of their parts.
 fn write_chunk<D: Dir>(
     alloc: Global,
@@ -156,12 +186,15 @@ fn write_chunk<D: Dir>(
     folder: &Path,
     flush: u64,
     text: &[u8],
+    sizes: &[u32],
     reducers: u32,
     runs: &mut Vec<Vec<Path>>,
 ) -> Result<(), SpillFault>
     requires some { 1 ≤ reducers }
     requires few { reducers ≤ 100000 }
     requires lines { pairs_text (pairs_in text.now) ≡ text.now }
+    requires plain { All IsPlain (pairs_in text.now) }
+    requires sizes { sizes.now ≡ map line_length (pairs_in text.now) }
     requires short { length folder.now < 8 }
     requires runs { length runs.old.items ≡ reducers }
     requires lent { AreListsFree folder.now flush (sorted_parts_of reducers (pairs_in text.now)) (D.lent dir.old) }
@@ -180,7 +213,7 @@ fn write_chunk<D: Dir>(
     ensures beside { D.beside dir.new ≡ D.beside dir.old }
     ensures cause { HasCause SpillFault.Disk (D.faults dir.old) (D.faults dir.new) result }
 {
-    let parts = sorted_parts(alloc, text, reducers)?;
+    let parts = sorted_parts(alloc, text, sizes, reducers)?;
     write_runs(alloc, dir, folder, flush, &parts)?;
     note_runs(alloc, folder, flush, &parts, runs)?;
     Ok(())

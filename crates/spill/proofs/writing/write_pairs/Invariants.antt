@@ -1,4 +1,4 @@
-use Rattle.std.proofs.Common.{◌≡◌, ◌≤◌, take}
+use Rattle.std.proofs.Common.{◌≡◌, take}
 use Rattle.dir_disk.specs.Calls.{CanAppend}
 use Rattle.dir_disk.specs.Keeping.{StandsBut}
 use Rattle.dir_disk.specs.Moments.{Both, Through, files}

@@ -1,4 +1,4 @@
-use Rattle.std.proofs.Common.{◌≡◌, ◌≤◌, map}
+use Rattle.std.proofs.Common.{◌≡◌, map}
 use Rattle.dir_disk.specs.Moments.{Both, Through, files}
 use Rattle.spill.specs.Chunks.{StandsBesideLists, StandsButLists}
 use Rattle.spill.proofs.WritingLemmas.{WrittenBelow}

@@ -17,6 +17,10 @@ pub returns-in_default-clause-plain : goal.returns-in_default-clause-plain
 returns-in_default-clause-plain g c =
     subst (λ (h : Held). All IsPlain h.pairs) c.self.view_is c.self.invariant.plain
 
+pub write_chunk-requires-clause-plain : goal.write_chunk-requires-clause-plain
+write_chunk-requires-clause-plain g c =
+    subst (λ (t : List ℕ). All IsPlain (pairs_in t)) (sym c.deref.ensures.value) c.self.invariant.plain
+
 pub write_chunk-requires-clause-lent : goal.write_chunk-requires-clause-lent
 write_chunk-requires-clause-lent g c =
     let inside = c.self.inside in
