@@ -8,8 +8,6 @@ mod kinds;
 mod roles;
 mod run;
 mod status;
-#[cfg(test)]
-mod tests;
 
 pub use dispatch::run_child;
 pub use status::ChildStatus;

@@ -19,6 +19,3 @@ pub use progress::Progress;
 pub use site::HostSite;
 pub use std_streams::{HeldStreams, StdConsole, StdSink, StdSource};
 pub use words::{ProgramWords, program_words};
-
-#[cfg(test)]
-mod tests;

@@ -2,6 +2,9 @@
 //! mapper and its reducer.
 #![tactic(auto)]
 
+#[cfg(test)]
+mod tests;
+
 use child::{ChildStatus, run_child};
 use host_real::{HeldStreams, StdSink, StdSource, program_words};
 use peg_text::NoMemory;
