@@ -4,8 +4,6 @@
 mod bits;
 pub mod laws;
 mod read;
-#[cfg(test)]
-mod tests;
 mod words;
 mod write;
 

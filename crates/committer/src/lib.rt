@@ -15,6 +15,3 @@ pub use fault::CommitFault;
 pub use folders::{drop_folder, is_whole, open_folder};
 pub use paths::{attempt_output, part_path, shuffle_folder, task_input, task_output};
 pub use sealing::{Sealing, begin_sealed};
-
-#[cfg(test)]
-mod tests;

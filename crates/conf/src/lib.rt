@@ -12,6 +12,3 @@ mod text;
 pub use commands::{Command, Form};
 pub use reading::{Conf, Usage, read_words};
 pub use text::conf_text;
-
-#[cfg(test)]
-mod tests;

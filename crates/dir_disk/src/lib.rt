@@ -19,8 +19,3 @@ pub use mem_source::MemSource;
 pub use silent::SilentDir;
 pub use site::{Ended, LogEntry, Site, StartFault};
 pub use streams::{Console, SayFault, Sink, SinkFault, Source, SourceFault};
-
-#[cfg(test)]
-mod dir_tests;
-#[cfg(test)]
-mod tests;

@@ -6,8 +6,6 @@ pub mod laws;
 mod plain;
 mod reader;
 mod records;
-#[cfg(test)]
-mod tests;
 mod text;
 mod unfinished;
 mod verdict;

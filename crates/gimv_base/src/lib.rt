@@ -16,8 +16,6 @@ mod records;
 mod role;
 mod stage1;
 mod stage2;
-#[cfg(test)]
-mod tests;
 
 pub use degrees::DegreesRole;
 pub use entries::EntriesRole;

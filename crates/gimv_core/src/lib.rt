@@ -4,8 +4,6 @@
 mod closing;
 mod gimv;
 pub mod laws;
-#[cfg(test)]
-mod tests;
 mod weights;
 
 pub use closing::Closing;

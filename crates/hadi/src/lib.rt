@@ -16,9 +16,6 @@ use std::alloc::Global;
 use std::marker::Model;
 
 pub mod laws;
-#[cfg(test)]
-mod tests;
-
 /// The most sums that a node keeps.
 const MOST_SUMS: usize = 257;
 

@@ -11,9 +11,6 @@ use peg_text::{NoMemory, read_decimal, write_decimal};
 use std::alloc::Global;
 
 pub mod laws;
-#[cfg(test)]
-mod tests;
-
 /// Each node takes over the least label that comes to it. A label is the number of a node, and a message is a label.
 #[derive(Clone, Copy, Debug, PartialEq, Eq)]
 pub struct Hcc;

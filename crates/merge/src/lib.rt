@@ -10,6 +10,3 @@ mod source;
 
 pub use fault::MergeFault;
 pub use passes::merge_runs;
-
-#[cfg(test)]
-mod tests;

@@ -12,9 +12,6 @@ use std::alloc::Global;
 use std::marker::Model;
 
 pub mod laws;
-#[cfg(test)]
-mod tests;
-
 /// All ranks together, in units.
 const WHOLE: u64 = 1 << 32;
 

@@ -10,6 +10,3 @@ pub use names::Name;
 pub use paths::Path;
 pub use tasks::{Attempt, Phase, TaskId};
 pub use word_lists::Words;
-
-#[cfg(test)]
-mod tests;

@@ -7,8 +7,6 @@ mod line_buf;
 mod lines;
 mod memory;
 mod pairs;
-#[cfg(test)]
-mod tests;
 
 pub use decimals::{read_decimal, write_decimal};
 pub use line_buf::LineBuf;

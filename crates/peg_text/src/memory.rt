@@ -15,21 +15,3 @@ impl<T: Drop> From<AllocFailed<T>> for NoMemory {
         NoMemory
     }
 }
-
-#[cfg(test)]
-mod tests {
-    use super::*;
-    use std::alloc::Global;
-
-    fn pushed(v: &mut Vec<u8>) -> Result<(), NoMemory> {
-        v.push(1)?;
-        v.extend_from_slice(b"ab")?;
-        Ok(())
-    }
-
-    #[test]
-    fn converts(rt: HostRuntime) {
-        let mut v = Vec::new(rt.alloc());
-        assert_eq!(rt; pushed(&mut v), Ok(()));
-    }
-}

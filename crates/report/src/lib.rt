@@ -7,6 +7,3 @@ mod lines;
 
 pub use gen_source::GenSource;
 pub use lines::{done_line, iteration_line, resumed_line};
-
-#[cfg(test)]
-mod tests;

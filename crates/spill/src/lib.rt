@@ -7,8 +7,6 @@ pub mod laws;
 mod line;
 mod names;
 mod spill;
-#[cfg(test)]
-mod tests;
 mod writing;
 
 pub use fault::SpillFault;

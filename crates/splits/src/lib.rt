@@ -13,6 +13,3 @@ pub use fault::SplitFault;
 pub use line_count::count_lines;
 pub use lines::lines_of_split;
 pub use table::{Split, split_table};
-
-#[cfg(test)]
-mod tests;

@@ -4,7 +4,7 @@ ghost use Rattle.dir_disk.specs.State.{StandsOutside, absent};
 ghost use Rattle.dir_disk.specs.Moments.{Both, Through, files};
 ghost use Rattle.dir_disk.specs.Lent.{IsFree};
 
-use super::*;
+use dir_disk::*;
 use peg_base::{Name, Path};
 use std::alloc::Global;
 use std::test::Fail;

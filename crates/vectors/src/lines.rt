@@ -1,6 +1,6 @@
 ghost use Rattle.std.specs.Prelude.{◌≡◌};
 
-use super::*;
+use report::*;
 use conf::{Command, Conf, Form};
 use dir_disk::Source;
 use std::alloc::Global;

@@ -1,4 +1,4 @@
-use crate::{Attempt, Name, Path, Phase, TaskId, Words};
+use peg_base::{Attempt, Name, Path, Phase, TaskId, Words};
 use peg_text::NoMemory;
 use std::alloc::Global;
 use std::cmp::Ordering;

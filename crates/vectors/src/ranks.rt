@@ -1,6 +1,6 @@
 ghost use Rattle.std.specs.Prelude.{◌≤◌};
 
-use crate::PageRank;
+use pagerank::PageRank;
 use gimv_core::Gimv;
 use peg_text::NoMemory;
 

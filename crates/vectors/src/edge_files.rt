@@ -1,4 +1,4 @@
-use crate::{Edge, EdgeFault, EdgeReader};
+use edge_text::{Edge, EdgeFault, EdgeReader};
 use std::alloc::Global;
 use std::process::Abort;
 

@@ -1,4 +1,4 @@
-use crate::{One, read_one};
+use gimv_core::{One, read_one};
 
 #[test]
 fn reads_the_weight_one(rt: HostRuntime) {

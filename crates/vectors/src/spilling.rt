@@ -1,6 +1,6 @@
 ghost use Rattle.std.specs.Prelude.{◌≡◌, length, IfOk};
 
-use crate::Spill;
+use spill::Spill;
 use dir_disk::{Dir, SilentDir};
 use peg_base::{Name, Path};
 use peg_text::NoMemory;

@@ -4,7 +4,7 @@ use Rattle.peg_base.proofs.Under.{under-refl}
 use Rattle.dir_disk.specs.State.{State, after_settle}
 use Rattle.dir_disk.specs.Moments.{Told, Adds, files}
 use Rattle.dir_disk.proofs.Steps.{settled_none, removed_now}
-use Rattle.dir_disk.proofs.dir_tests.take_away.Goals as goal
+use Rattle.vectors.proofs.silent_dir.take_away.Goals as goal
 
 -- the file was removed, and a path that has none and is settled is absent
 pub returns-clause-gone : goal.returns-clause-gone

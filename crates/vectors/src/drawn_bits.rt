@@ -1,4 +1,4 @@
-use crate::{
+use bitstrings::{
     Bits, first_words, or_into, places, radius, read_bits, read_words, write_bits, write_words,
 };
 use peg_text::NoMemory;

@@ -1,6 +1,6 @@
 ghost use Rattle.std.specs.Prelude.{◌≡◌, length, IfOk};
 
-use crate::merge_runs;
+use merge::merge_runs;
 use dir_disk::SilentDir;
 use peg_base::{Name, Path};
 use peg_text::NoMemory;

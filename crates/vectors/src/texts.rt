@@ -1,4 +1,4 @@
-use crate::{LineBuf, NoMemory, read_decimal, records, split_pair, write_decimal, write_pair};
+use peg_text::{LineBuf, NoMemory, read_decimal, records, split_pair, write_decimal, write_pair};
 
 #[test]
 fn reads_decimals(rt: HostRuntime) {

@@ -1,4 +1,4 @@
-use crate::{DegreesRole, EntriesRole, IdRole, PlaceRole, Role, RoleFault};
+use gimv_base::{DegreesRole, EntriesRole, IdRole, PlaceRole, Role, RoleFault};
 use std::alloc::Global;
 
 /// What a role writes for all these records.

@@ -1,4 +1,4 @@
-use super::*;
+use splits::*;
 use dir_disk::SilentDir;
 use peg_base::{Name, Path};
 use std::test::Fail;

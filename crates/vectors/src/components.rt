@@ -1,4 +1,4 @@
-use crate::Hcc;
+use hcc::Hcc;
 use gimv_core::{Closing, Gimv, One};
 use peg_text::NoMemory;
 

@@ -1,9 +1,8 @@
 ghost use Rattle.std.specs.Prelude.{◌≡◌, length, IfOk};
 
-use crate::paths::{part_path, success_path, task_part_path};
-use crate::{
+use committer::{
     attempt_output, begin_sealed, commit_job, commit_task, drop_folder, is_whole, open_folder,
-    shuffle_folder, task_input, task_output,
+    part_path, shuffle_folder, task_input, task_output,
 };
 use dir_disk::SilentDir;
 use peg_base::{Attempt, Name, Path, Phase, TaskId};
@@ -47,8 +46,7 @@ fn paths_have_parts_of_five_digits_and_tasks_of_six(rt: HostRuntime) -> Result<(
     let map = attempt_of(folder(&rt, alloc)?, Phase::Map, 524287);
     let reduce = attempt_of(folder(&rt, alloc)?, Phase::Reduce, 63);
     let cases = [
-        (success_path(alloc, &job)?, b"/f/_SUCCESS".as_slice()),
-        (part_path(alloc, &job, 63)?, b"/f/part-00063"),
+        (part_path(alloc, &job, 63)?, b"/f/part-00063".as_slice()),
         (
             attempt_output(alloc, &job, &map)?,
             b"/f/_temporary/attempt-m-524287-3/out",
@@ -60,10 +58,6 @@ fn paths_have_parts_of_five_digits_and_tasks_of_six(rt: HostRuntime) -> Result<(
         (
             task_output(alloc, &job, Phase::Map, 7)?,
             b"/f/_temporary/task-m-000007/out",
-        ),
-        (
-            task_part_path(alloc, &job, 7)?,
-            b"/f/_temporary/task-r-000007/part-00007",
         ),
         (
             task_input(alloc, &job, Phase::Map, 524287)?,

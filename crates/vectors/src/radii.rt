@@ -1,6 +1,6 @@
 ghost use Rattle.gimv_core.specs.Algebras.{FitsWeight};
 
-use crate::Hadi;
+use hadi::Hadi;
 use gimv_core::{Gimv, One};
 use peg_text::NoMemory;
 use std::alloc::Global;

@@ -1,4 +1,4 @@
-use super::*;
+use dir_disk::*;
 use std::alloc::Global;
 use std::test::Fail;
 

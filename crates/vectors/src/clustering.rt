@@ -1,4 +1,4 @@
-use crate::{Labels, permutation, places, relabel};
+use cluster::{Labels, permutation, places, relabel};
 use graph::Edge;
 use std::test::Fail;
 
