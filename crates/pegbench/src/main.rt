@@ -1,25 +1,31 @@
-//! `pegbench COMMAND ..`: one part of a job by itself, over files of a folder, to be timed and to be tried on the machine.
+//! `pegbench COMMAND ..`: one part of a job or of a run by itself, over files of a folder, to be timed and to be tried on
+//! the machine.
 //! No promise stands on it.
 #![tactic(auto)]
 
 ghost use Rattle.std.specs.Prelude.{◌≡◌, ◌≤◌, [], length, IfOk};
 
-use dir_disk::{Dir, DirFault, Site};
-use host_real::{HeldStreams, HostSite, Progress, program_words};
+use committer::part_path;
+use dir_disk::{Dir, DirFault, Site, Source};
+use host_real::{HeldStreams, HostSite, Progress, StdSource, program_words};
 use job::{JobFault, JobSpec, ShuffleFault, run_job, shuffle};
 use peg_base::{Name, Path, Words};
 use peg_text::{NoMemory, read_decimal};
 use splits::{Split, SplitFault, lines_of_split, split_table};
 use std::alloc::Global;
 use std::process::ExitCode;
+use store::{IngestFault, ReadingFault, check_edges, count_changes, write_edges};
 
 const HELP: &str = "\
-pegbench: one part of a job by itself, over files of a folder
+pegbench: one part of a job or of a run by itself, over files of a folder
 
 usage: pegbench split WORK FILE LENGTH     the lines of each split of WORK/FILE as WORK/split-N
        pegbench shuffle WORK FILE LIMIT    the pairs of WORK/FILE as WORK/job/_temporary/r-000000.in, by runs of LIMIT bytes
        pegbench job WORK FILE LIMIT CHILD LENGTH
                                            the job WORK/job over WORK/FILE, `CHILD id` being its mapper and its reducer
+       pegbench write WORK FOLDER NODES    the edges of standard input, with ids below NODES, as the folder WORK/FOLDER
+       pegbench check WORK FOLDER NODES    the same edges, compared with those of that folder
+       pegbench changes WORK FOLDER PARTS  how many nodes changed, by so many parts of the vector WORK/FOLDER
        pegbench calls WORK CALL ..         calls of the directory over WORK, one after another, and a line on each answer:
                                            size:PATH read:PATH append:PATH:TEXT move:PATH:PATH remove:PATH settle:PATH
 ";
@@ -30,6 +36,8 @@ enum BenchFault {
     Usage,
     /// Four attempts of a task failed.
     Task,
+    /// What was read isn't as it has to be.
+    Data,
     Disk,
     NoMemory,
 }
@@ -73,6 +81,26 @@ impl From<JobFault> for BenchFault {
             JobFault::TaskFailed { .. } => BenchFault::Task,
             JobFault::Disk => BenchFault::Disk,
             JobFault::NoMemory => BenchFault::NoMemory,
+        }
+    }
+}
+
+impl From<IngestFault> for BenchFault {
+    fn from(fault: IngestFault) -> Self {
+        match fault {
+            IngestFault::Disk | IngestFault::Read => BenchFault::Disk,
+            IngestFault::NoMemory => BenchFault::NoMemory,
+            _ => BenchFault::Data,
+        }
+    }
+}
+
+impl From<ReadingFault> for BenchFault {
+    fn from(fault: ReadingFault) -> Self {
+        match fault {
+            ReadingFault::BadStore { .. } => BenchFault::Data,
+            ReadingFault::Disk => BenchFault::Disk,
+            ReadingFault::NoMemory => BenchFault::NoMemory,
         }
     }
 }
@@ -178,6 +206,56 @@ fn run_on_file<S: Site>(
     Ok(())
 }
 
+/// Makes a folder whole of the edges of a source.
+fn write_input<E: Source, D: Dir>(
+    alloc: Global,
+    source: &mut E,
+    dir: &mut D,
+    folder: &[u8],
+    nodes: u32,
+) -> Result<(), BenchFault>
+    requires lent { D.lent dir.old ≡ [] }
+    requires untold { D.tells → ⊥ }
+{
+    let folder = path_of(alloc, folder)?;
+    write_edges(alloc, nodes, source, dir, &folder)?;
+    Ok(())
+}
+
+/// Compares the edges of a source with those of a folder.
+fn check_input<E: Source, D: Dir>(
+    alloc: Global,
+    source: &mut E,
+    dir: &mut D,
+    folder: &[u8],
+    nodes: u32,
+) -> Result<(), BenchFault>
+    requires lent { D.lent dir.old ≡ [] }
+    requires untold { D.tells → ⊥ }
+{
+    let folder = path_of(alloc, folder)?;
+    let part = part_path(alloc, &folder, 0)?;
+    check_edges(alloc, nodes, source, dir, &part)?;
+    Ok(())
+}
+
+/// Says how many nodes changed, by the first parts of a vector's folder.
+fn say_changes<D: Dir>(
+    rt: &HostRuntime,
+    alloc: Global,
+    dir: &mut D,
+    folder: &[u8],
+    parts: u32,
+) -> Result<(), BenchFault>
+    requires lent { D.lent dir.old ≡ [] }
+    requires untold { D.tells → ⊥ }
+{
+    let folder = path_of(alloc, folder)?;
+    let changes = count_changes(alloc, dir, &folder, parts)?;
+    let count = size_line(alloc, Some(changes.count))?;
+    say(rt, b"", &count)
+}
+
 /// The path that a text spells, with a slash between any two names.
 fn path_at(alloc: Global, text: &str) -> Result<Path, BenchFault> {
     let mut path = Path::root(alloc);
@@ -273,6 +351,30 @@ fn number_of(word: &str) -> Result<u64, BenchFault> {
     read_decimal(word.as_bytes()).ok_or(BenchFault::Usage)
 }
 
+/// Carries out a part over edges or values.
+fn run_on_store<D: Dir>(
+    rt: &HostRuntime,
+    alloc: Global,
+    dir: &mut D,
+    part: &str,
+    folder: &[u8],
+    number: u64,
+) -> Result<(), BenchFault>
+    requires lent { D.lent dir.old ≡ [] }
+    requires untold { D.tells → ⊥ }
+{
+    let Ok(number) = u32::try_from(number) else {
+        return Err(BenchFault::Usage);
+    };
+    let mut input = StdSource::new(rt);
+    match part {
+        "write" => write_input(alloc, &mut input, dir, folder, number),
+        "check" => check_input(alloc, &mut input, dir, folder, number),
+        "changes" => say_changes(rt, alloc, dir, folder, number),
+        _ => Err(BenchFault::Usage),
+    }
+}
+
 /// Carries out a part that starts no children.
 fn run_alone(
     rt: &HostRuntime,
@@ -286,7 +388,7 @@ fn run_alone(
     match part {
         "split" => split_file(alloc, &mut site, file, number),
         "shuffle" => shuffle_file(alloc, &mut site, file, number),
-        _ => Err(BenchFault::Usage),
+        _ => run_on_store(rt, alloc, &mut site, part, file, number),
     }
 }
 
@@ -337,6 +439,7 @@ fn main(rt: HostRuntime) -> ExitCode {
             ExitCode::from(2)
         }
         Err(BenchFault::Task) => ExitCode::from(5),
+        Err(BenchFault::Data) => ExitCode::from(65),
         Err(BenchFault::Disk) => ExitCode::from(74),
         Err(BenchFault::NoMemory) => ExitCode::from(70),
     }
