@@ -3,11 +3,18 @@ use crate::tree::{joined, remove_any, sync};
 use std::alloc::AllocGlobal;
 use std::io::ErrorKind;
 use std::rt::Files;
-use std::{fs, io};
+use std::time::Duration;
+use std::{fs, io, thread};
 
 /// How the name of a folder begins in which the children of one run write. No path of a directory has such a name, so no
 /// file in it is one of the directory's.
 const OWN: &str = "run+";
+
+/// How often a folder that another process has is asked for again.
+const TRIES: u32 = 20;
+
+/// How many milliseconds it is waited for before each of these.
+const PAUSE: u64 = 50;
 
 /// Whether a site has its work folder.
 #[derive(Drop)]
@@ -33,7 +40,7 @@ pub(crate) struct Held<F> {
 pub(crate) fn take<R: Machine>(rt: &R, work: &str) -> io::Result<Hold<R::File>> {
     make_folder(rt, work)?;
     let folder = fs::open(rt, work)?;
-    let lock = match R::try_lock(&folder) {
+    let lock = match lock(rt, &folder) {
         Ok(true) => Some(folder),
         Ok(false) => return Ok(Hold::InUse),
         Err(_) => None,
@@ -43,6 +50,17 @@ pub(crate) fn take<R: Machine>(rt: &R, work: &str) -> io::Result<Hold<R::File>> 
     }
     let own = own_folder(rt, work)?;
     Ok(Hold::Held(Held { lock, own }))
+}
+
+/// Takes the lock of a folder. Where another process has it, it waits for a second, in which a run that was killed ends.
+fn lock<R: Machine>(rt: &R, folder: &R::File) -> io::Result<bool> {
+    for _try in 0..TRIES {
+        if R::try_lock(folder)? {
+            return Ok(true);
+        }
+        thread::sleep(rt, Duration::from_millis(PAUSE));
+    }
+    R::try_lock(folder)
 }
 
 /// Makes a folder and those above it where they are missing, and makes sure that each one that was made stays.
