@@ -64,8 +64,7 @@ for words in 'hcc' 'pagerank iters=4' 'hadi hops=5 seed=9' 'hadi seed=3 sym=yes'
         { kill -KILL $run; wait $run; } 2>/dev/null
         status=$?
         [ "$status" != 0 ] || break
-        # A child that was being started when its driver was killed may have the work folder for a moment yet.
-        [ "$status" = 137 ] || [ "$status" = 6 ] || fail "$words, killed: status $status"
+        [ "$status" = 137 ] || fail "$words, killed: status $status"
         # What children that were left still write is no part of the next run.
         sleep 0.05
         wait=$(awk -v wait="$wait" 'BEGIN { print wait * 1.15 }')
