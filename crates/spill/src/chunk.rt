@@ -35,15 +35,6 @@ fn first_line(text: &[u8], size: usize) -> (&[u8], &[u8])
     (&text[..size], &text[size + 1..])
 }
 
-/// The key of a line, and its prefix.
-fn key_and_prefix(line: &[u8]) -> (&[u8], u64)
-    ensures key { result.0.now ≡ key_of line.now }
-    ensures prefix { result.1 ≡ prefix_of (key_of line.now) }
-{
-    let (length, prefix) = measured_key(line);
-    (&line[..length], prefix)
-}
-
 /// The pairs of a text, whose lines have these lengths, by their parts, in the order of the text.
 fn deal<'a>(
     alloc: Global,
@@ -62,8 +53,8 @@ fn deal<'a>(
     let mut left = text;
     for size in sizes {
         let (line, rest) = first_line(left, *size as usize);
-        let (key, prefix) = key_and_prefix(line);
-        parts[part_of(key, reducers) as usize].push(Line::new(line, prefix))?;
+        let (key, prefix) = measured_key(line);
+        parts[part_of(&line[..key], reducers) as usize].push(Line::new(line, key, prefix))?;
         left = rest;
     }
     Ok(parts)

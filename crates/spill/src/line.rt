@@ -1,4 +1,4 @@
-ghost use Rattle.std.specs.Prelude.{◌≡◌, ◌++◌, OnOk, refl};
+ghost use Rattle.std.specs.Prelude.{◌≡◌, ◌++◌, OnOk, length, refl};
 ghost use Rattle.std.specs.Cmp;
 ghost use Rattle.std.specs.Ordering.{as_partial_cmp, eq_by_cmp};
 ghost use Rattle.std.proofs.lemmas.Cmp.{eq_by_cmp_equiv};
@@ -12,33 +12,36 @@ use std::alloc::Global;
 use std::cmp::Ordering;
 use std::marker::Model;
 
-/// A pair that lies in a chunk's text as a line, beside the prefix of its key. Contracts see the pair, and lines are in
-/// the order of pairs.
+/// A pair that lies in a chunk's text as a line, beside the rank of its key. Contracts see the pair, and lines are in the
+/// order of pairs.
 #[derive(Drop)]
 pub(crate) struct Line<'a> {
-    prefix: u64,
+    /// The first seven bytes of the key as a number, and in its lowest byte how many bytes the key has, eight at most.
+    rank: u64,
     text: &'a [u8],
 }
 
 impl<'a> Model for Line<'a> {
     ghost use Rattle.pairs.specs.Pairs.{Pair, pair_of};
-    ghost use Rattle.spill.specs.Lines.{HasPrefix};
+    ghost use Rattle.spill.specs.Lines.{IsLine};
 
     ghost Value = { Pair };
 
     ghost view = { λ line. pair_of line.text.now };
 
-    ghost invariant = { λ line. HasPrefix line.text.now line.prefix };
+    ghost invariant = { λ line. IsLine line.text.now line.rank };
 }
 
 impl<'a> Line<'a> {
-    /// The pair of a text with a TAB, whose key has this prefix.
-    pub fn new(text: &'a [u8], prefix: u64) -> Line<'a>
+    /// The pair of a text with a TAB, whose key has this length and this prefix.
+    pub fn new(text: &'a [u8], key: usize, prefix: u64) -> Line<'a>
+        requires key { key ≡ length (key_of text.now) }
         requires prefix { prefix ≡ prefix_of (key_of text.now) }
         requires whole { pair_text (key_of text.now) (value_of text.now) ≡ text.now }
         ensures { result ≡ pair_of text.now }
     {
-        Line { prefix, text }
+        let rank = prefix / 256 * 256 + key.min(8) as u64;
+        Line { rank, text }
     }
 
     /// Appends the line and its LF. After a refusal a part of it may have been appended.
@@ -93,7 +96,8 @@ impl<'a> Ord for Line<'a> {
     ghost matches_eq = { λ x y. refl };
 
     fn cmp(&self, other: &Line<'a>) -> Ordering {
-        match self.prefix.cmp(&other.prefix) {
+        match self.rank.cmp(&other.rank) {
+            Ordering::Equal if self.rank % 256 < 8 => self.text.cmp(other.text),
             Ordering::Equal => self.pair().cmp(&other.pair()),
             order => order,
         }

@@ -1,4 +1,4 @@
-use Rattle.std.proofs.Common.{◌≡◌, ◌∙◌, ◌+◌, ◌<◌, ◌++◌, ℕ, List, ◌∷◌, [], map, drop, length, get_or, set, ap, sym, subst, arith, Vec, Global}
+use Rattle.std.proofs.Common.{◌≡◌, ◌∙◌, ◌+◌, ◌<◌, ◌++◌, ℕ, List, ◌∷◌, [], map, take, drop, length, get_or, set, ap, sym, subst, arith, Vec, Global}
 use Rattle.std.proofs.lemmas.List.{length-map, map-set, get_or-map}
 use Rattle.pairs.specs.Pairs.{Pair, pairs_in}
 use Rattle.partition.specs.Hash.{part_among}
@@ -42,9 +42,9 @@ loop-size-preserved c =
     let part = c.part_of.result in
     let line : List ℕ = c.first_line.result.0.now in
     let rest : List ℕ = c.first_line.result.1.now in
-    let key : List ℕ = c.key_and_prefix-prefix.result.0.now in
+    let key : List ℕ = take c.measured_key-key.result.0 line in
     let is_line = c.first_line.ensures.line ∙ here.first.1 in
-    let is_key : key ≡ p.0 = c.key_and_prefix-prefix.ensures.key ∙ key_again p line here.plain is_line in
+    let is_key : key ≡ p.0 = c.measured_key-key.ensures.key ∙ key_again p line here.plain is_line in
     let exact : part ≡ part_among key reducers = c.part_of.ensures.exact in
     let long = length-map items pairs_of in
     let many = ap length c.loop-size.invariant.dealt ∙ length-parts_of reducers _ in
