@@ -15,3 +15,4 @@ pub mod UnplaceLemmas
 pub mod UnplaceBack
 pub mod NewValueLemmas
 pub mod FirstLemmas
+pub mod NumberLemmas

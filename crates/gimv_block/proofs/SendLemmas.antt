@@ -134,6 +134,12 @@ module _ {Val Msg Weight : Type 0} (a : Algebra Val Msg Weight) (laws : IsLawful
         (λ r low. map_has Fits (λ m. (r, m)) (option_and_then (passed_on a vs) (around_colon fields.1))
         (and_then_has (FitsMsg a) (passed_on a vs) (around_colon fields.1) (λ rest there. passed_fits rest))))
 
+    -- and so does what one value passes on
+    pub one_fits : (column : ℕ) (weight : List ℕ) (v : Val) (w : Weight) → slice_get vs column ≡ Some v → a.weight_of weight ≡ Some w → FitsMsg a (a.algorithm.combine2 w v)
+    one_fits column weight v w there weighs =
+        laws.combine2_fits w v (if_some_is (FitsWeight a) (a.weight_of weight) w weighs (laws.weight_of_fits weight))
+        (if_some_is (FitsVal a) (slice_get vs column) v there (get_has a.fits_val vs column fits))
+
     -- what the rows of a block are after the items of a text, as a line
     module _ (len n block : ℕ) (items : List ℕ) (rows : List (Option Msg)) (old new : List ℕ) where
       abbrev size : ℕ

@@ -13,3 +13,4 @@ pub mod BlockFlow
 pub mod BlockListing
 pub mod Unplacing
 pub mod BlockValues
+pub mod Numbers

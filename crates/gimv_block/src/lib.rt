@@ -11,6 +11,7 @@ mod firstb;
 mod group;
 mod items;
 pub mod laws;
+mod numbers;
 mod parts;
 mod records;
 mod unblock;

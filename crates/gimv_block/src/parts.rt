@@ -8,8 +8,7 @@ ghost use Rattle.gimv_block.specs.BlockRecords.{item_of, part_of};
 ghost use Rattle.gimv_block.specs.Items.{items_of};
 ghost use Rattle.gimv_block.specs.Rows.{RowsFit, parts_in, take_in, with_one};
 
-use crate::items::first_item;
-use crate::records::{read_item, read_part};
+use crate::records::{next_item, next_part};
 use gimv_core::Gimv;
 use peg_text::{NoMemory, write_decimal};
 use std::alloc::Global;
@@ -43,8 +42,7 @@ pub fn take_items<G: Gimv>(
     let size = rows.len() as u32;
     let mut left = Some(items);
     while let Some(text) = left {
-        let (item, rest) = first_item(text);
-        let (row, message) = read_item(algorithm, vals, size, item)?;
+        let ((row, message), rest) = next_item(algorithm, vals, size, text)?;
         put(algorithm, &mut rows[row as usize], message);
         left = rest;
     }
@@ -67,8 +65,7 @@ pub fn take_parts<G: Gimv>(
     let size = rows.len() as u32;
     let mut left = Some(parts);
     while let Some(text) = left {
-        let (part, rest) = first_item(text);
-        let (row, message) = read_part(algorithm, size, part)?;
+        let ((row, message), rest) = next_part(algorithm, size, text)?;
         put(algorithm, &mut rows[row as usize], message);
         left = rest;
     }

@@ -1,13 +1,15 @@
-ghost use Rattle.std.specs.Prelude.{◌≡◌, ◌<◌, ◌^◌, true, length, option_map, position, IfOk, IfSome};
+ghost use Rattle.std.specs.Prelude.{◌≡◌, ◌<◌, ◌^◌, true, Some, length, option_map, position, IfOk, IfSome};
 ghost use Rattle.gimv_base.specs.Fields.{parts_at};
 ghost use Rattle.std.specs.List.{list_all};
 ghost use Rattle.gimv_core.specs.Algebras.{FitsMsg};
 ghost use Rattle.gimv_block.specs.Blocks.{block_count, block_size};
+ghost use Rattle.gimv_block.specs.Items.{from_first, items_of};
 ghost use Rattle.gimv_block.specs.MatrixEntries.{entry_of};
 ghost use Rattle.gimv_block.specs.BlockRecords.{any_tagged, block_pair_of, block_record_of, is_dot, cut_record_of, item_of, link_record_of, matrix_record_of, part_of, seat_record_of, weight_number_of};
 
 use crate::blocks::Blocks;
-use crate::items::{around_colon, read_vals};
+use crate::items::{around_colon, first_item, read_vals};
+use crate::numbers::number_before;
 use gimv_base::{after_tag, around_blank, read_below, value_text};
 use gimv_core::Gimv;
 use peg_text::{NoMemory, read_decimal, split_pair};
@@ -72,7 +74,7 @@ pub fn read_link(line: &[u8], blocks: Blocks, column_block: u32) -> Option<(u32,
 
 /// What an item passes on of the values of its column's block, and the offset of its row. `None` where the text is of
 /// another kind.
-pub fn read_item<G: Gimv>(
+fn read_item<G: Gimv>(
     algorithm: &G,
     vals: &Vec<G::Val>,
     rows: u32,
@@ -91,8 +93,53 @@ pub fn read_item<G: Gimv>(
     Some((row, algorithm.combine2(&weight, val)))
 }
 
+/// The first item of a text, as `read_item` gives it, and what stands behind its comma, if it has one. `None` where the
+/// item is of another kind.
+pub fn next_item<'a, G: Gimv>(
+    algorithm: &G,
+    vals: &Vec<G::Val>,
+    rows: u32,
+    text: &'a [u8],
+) -> Option<((u32, G::Msg), Option<&'a [u8]>)>
+    requires { list_all (G.algebra algorithm.now).fits_val vals.now.items ≡ true }
+    ensures is { items_of (item_of (G.algebra algorithm.now) vals.now.items rows) text.now ≡ from_first (item_of (G.algebra algorithm.now) vals.now.items rows) (option_map (λ found. (found.0, option_map (λ rest. rest.now) found.1)) result) }
+    ensures below { IfSome result (λ found. found.0.0 < rows) }
+    ensures fits { IfSome result (λ found. FitsMsg (G.algebra algorithm.now) found.0.1) }
+    ensures shorter { IfSome result (λ found. IfSome found.1 (λ rest. length rest.now < length text.now)) }
+{
+    if let Some(found) = quick_item(algorithm, vals, rows, text) {
+        return Some(found);
+    }
+    let (item, rest) = first_item(text);
+    Some((read_item(algorithm, vals, rows, item)?, rest))
+}
+
+/// The same in one pass, for an item whose offsets have no more than 19 digits. `None` also at other texts.
+fn quick_item<'a, G: Gimv>(
+    algorithm: &G,
+    vals: &Vec<G::Val>,
+    rows: u32,
+    text: &'a [u8],
+) -> Option<((u32, G::Msg), Option<&'a [u8]>)>
+    requires { list_all (G.algebra algorithm.now).fits_val vals.now.items ≡ true }
+    ensures is { IfSome result (λ found. items_of (item_of (G.algebra algorithm.now) vals.now.items rows) text.now ≡ from_first (item_of (G.algebra algorithm.now) vals.now.items rows) (Some (found.0, option_map (λ rest. rest.now) found.1))) }
+    ensures below { IfSome result (λ found. found.0.0 < rows) }
+    ensures fits { IfSome result (λ found. FitsMsg (G.algebra algorithm.now) found.0.1) }
+    ensures shorter { IfSome result (λ found. IfSome found.1 (λ rest. length rest.now < length text.now)) }
+{
+    let (row, fields) = number_before(text, b':')?;
+    if row >= u64::from(rows) {
+        return None;
+    }
+    let (column, last) = number_before(fields, b':')?;
+    let val = vals.get(column as usize)?;
+    let (weight, rest) = first_item(last);
+    let weight = algorithm.read_weight(weight)?;
+    Some(((row as u32, algorithm.combine2(&weight, val)), rest))
+}
+
 /// A part: the offset of its row, and a message to it. `None` where the text is of another kind.
-pub fn read_part<G: Gimv>(algorithm: &G, rows: u32, text: &[u8]) -> Option<(u32, G::Msg)>
+fn read_part<G: Gimv>(algorithm: &G, rows: u32, text: &[u8]) -> Option<(u32, G::Msg)>
     ensures is { result ≡ part_of (G.algebra algorithm.now) rows text.now }
     ensures below { IfSome result (λ part. part.0 < rows) }
     ensures fits { IfSome result (λ part. FitsMsg (G.algebra algorithm.now) part.1) }
@@ -100,6 +147,44 @@ pub fn read_part<G: Gimv>(algorithm: &G, rows: u32, text: &[u8]) -> Option<(u32,
     let (row, message) = around_colon(text)?;
     let row = read_below(row, u64::from(rows))?;
     Some((row, algorithm.read_msg(message)?))
+}
+
+/// The first part of a text, as `read_part` gives it, and what stands behind its comma, if it has one. `None` where the
+/// part is of another kind.
+pub fn next_part<'a, G: Gimv>(
+    algorithm: &G,
+    rows: u32,
+    text: &'a [u8],
+) -> Option<((u32, G::Msg), Option<&'a [u8]>)>
+    ensures is { items_of (part_of (G.algebra algorithm.now) rows) text.now ≡ from_first (part_of (G.algebra algorithm.now) rows) (option_map (λ found. (found.0, option_map (λ rest. rest.now) found.1)) result) }
+    ensures below { IfSome result (λ found. found.0.0 < rows) }
+    ensures fits { IfSome result (λ found. FitsMsg (G.algebra algorithm.now) found.0.1) }
+    ensures shorter { IfSome result (λ found. IfSome found.1 (λ rest. length rest.now < length text.now)) }
+{
+    if let Some(found) = quick_part(algorithm, rows, text) {
+        return Some(found);
+    }
+    let (part, rest) = first_item(text);
+    Some((read_part(algorithm, rows, part)?, rest))
+}
+
+/// The same in one pass, for a part whose offset has no more than 19 digits. `None` also at other texts.
+fn quick_part<'a, G: Gimv>(
+    algorithm: &G,
+    rows: u32,
+    text: &'a [u8],
+) -> Option<((u32, G::Msg), Option<&'a [u8]>)>
+    ensures is { IfSome result (λ found. items_of (part_of (G.algebra algorithm.now) rows) text.now ≡ from_first (part_of (G.algebra algorithm.now) rows) (Some (found.0, option_map (λ rest. rest.now) found.1))) }
+    ensures below { IfSome result (λ found. found.0.0 < rows) }
+    ensures fits { IfSome result (λ found. FitsMsg (G.algebra algorithm.now) found.0.1) }
+    ensures shorter { IfSome result (λ found. IfSome found.1 (λ rest. length rest.now < length text.now)) }
+{
+    let (row, last) = number_before(text, b':')?;
+    if row >= u64::from(rows) {
+        return None;
+    }
+    let (message, rest) = first_item(last);
+    Some(((row as u32, algorithm.read_msg(message)?), rest))
 }
 
 /// An entry of a matrix.
@@ -126,6 +211,9 @@ fn read_weight_number(text: &[u8]) -> Option<u64>
 pub fn read_matrix(line: &[u8]) -> Option<MatrixEntry>
     ensures { option_map entry_of result ≡ matrix_record_of line.now }
 {
+    if let Some(entry) = quick_matrix(line) {
+        return Some(entry);
+    }
     let (key, value) = split_pair(line);
     let column = read_below(key, IDS)?;
     let (row, weight) = around_blank(after_tag(value, b'W')?)?;
@@ -134,6 +222,23 @@ pub fn read_matrix(line: &[u8]) -> Option<MatrixEntry>
     Some(MatrixEntry {
         row,
         column,
+        weight,
+    })
+}
+
+/// The same in one pass, for ids of no more than 19 digits. `None` also at other records.
+fn quick_matrix(line: &[u8]) -> Option<MatrixEntry>
+    ensures { IfSome result (λ entry. Some (entry_of entry) ≡ matrix_record_of line.now) }
+{
+    let (column, value) = number_before(line, b'\t')?;
+    let (row, weight) = number_before(after_tag(value, b'W')?, b' ')?;
+    if column >= IDS || row >= IDS {
+        return None;
+    }
+    let weight = read_weight_number(weight)?;
+    Some(MatrixEntry {
+        row: row as u32,
+        column: column as u32,
         weight,
     })
 }
