@@ -1,5 +1,5 @@
 -- Reading a number at the front of a text, and what a text is that begins with one.
-use Rattle.std.proofs.Common.{◌≡◌, ◌≢◌, ℕ, ◌+◌, ◌-◌, ◌*◌, ◌^◌, ◌<◌, ◌≤◌, leb, true, ◌&&◌, List, [], ◌∷◌, ◌++◌, Option, Some, None, option_map, option_and_then, slice_get, All, length, map, get_or, take, drop, refl, sym, ap, ◌∙◌, arith}
+use Rattle.std.proofs.Common.{◌≡◌, ◌≢◌, ℕ, ◌+◌, ◌-◌, ◌*◌, ◌^◌, ◌<◌, ◌≤◌, leb, true, List, [], ◌∷◌, ◌++◌, Option, Some, None, option_map, option_and_then, slice_get, All, length, map, get_or, take, drop, refl, sym, ap, ◌∙◌, arith}
 use Rattle.std.specs.List.{list_all, slice_split, onto_first}
 use Rattle.std.specs.Char.{is_ascii_digit, digit_value}
 use Rattle.std.specs.Str.Parse.{digits_value}
@@ -17,9 +17,9 @@ use Rattle.graph.specs.Entries.{Entry}
 use Rattle.gimv_core.specs.Algebras.{Algebra}
 use Rattle.gimv_base.specs.Fields.{below, number_below, tagged, around_blank}
 use Rattle.gimv_base.specs.Records.{id_of}
-use Rattle.gimv_block.specs.Numbers.{BeginsWithNumber}
+use Rattle.gimv_block.specs.Numbers.{BeginsWithNumber, with_number}
 use Rattle.gimv_block.specs.Items.{is_comma, all_some, pieces_of, items_of, from_first, around_colon}
-use Rattle.gimv_block.specs.BlockRecords.{item_of, item_fields, passed_on, part_of, part_fields, matrix_fields, matrix_record_of, weight_number_of}
+use Rattle.gimv_block.specs.BlockRecords.{item_of, item_fields, passed_on, part_of, part_fields, matrix_fields, matrix_record_of, cut_fields, cut_record_of, weight_number_of}
 use Rattle.gimv_block.proofs.BackLemmas.{around-is}
 
 -- these first bytes are digits, and write this number
@@ -143,4 +143,27 @@ quick_matrix_is line value fields weight column row w one of_column is_tagged tw
     ∙ ap (λ (l : List ℕ). option_and_then (matrix_fields column) (around_blank l)) two.is
     ∙ ap (option_and_then (matrix_fields column)) (around-is 32 two.digits weight (digits_without 32 (λ b low high same. omega arith) two.digits two.all))
     ∙ ap (option_and_then (λ (r : ℕ). option_map (λ (m : ℕ). entry_by r column m) (weight_number_of weight))) (number_within (2 ^ 32) row two.digits two.reads of_row)
+    ∙ ap (option_map (λ (m : ℕ). entry_by row column m)) weighs
+
+no_blank : (digits : List ℕ) → list_all is_ascii_digit digits ≡ true → All (λ b. b ≢ 32) digits
+no_blank digits all = digits_without 32 (λ b low high same. omega arith) digits all
+
+-- a number and a blank are the first field
+pub first_number_is : (bound : ℕ) (text rest : List ℕ) (number : ℕ) → BeginsWithNumber text 32 number rest → number < bound
+    → option_and_then (with_number bound) (around_blank text) ≡ Some (number, rest)
+first_number_is bound text rest number front low =
+    ap (λ (l : List ℕ). option_and_then (with_number bound) (around_blank l)) front.is
+    ∙ ap (option_and_then (with_number bound)) (around-is 32 front.digits rest (no_blank front.digits front.all))
+    ∙ ap (option_map (λ (k : ℕ). (k, rest))) (number_within bound number front.digits front.reads low)
+
+-- an entry between two blocks, by its numbers
+pub quick_cut_is : (line rest weight : List ℕ) (row column w : ℕ) → BeginsWithNumber (value_of line) 32 row rest → row < 2 ^ 32
+    → BeginsWithNumber rest 32 column weight → column < 2 ^ 32 → weight_number_of weight ≡ Some w → cut_record_of line ≡ Some (entry_by row column w)
+quick_cut_is line rest weight row column w one of_row two of_column weighs =
+    ap (λ (v : List ℕ). option_and_then (λ (f : List ℕ × List ℕ). option_and_then (cut_fields f) (around_blank f.1)) (around_blank v)) one.is
+    ∙ ap (option_and_then (λ (f : List ℕ × List ℕ). option_and_then (cut_fields f) (around_blank f.1))) (around-is 32 one.digits rest (no_blank one.digits one.all))
+    ∙ ap (λ (l : List ℕ). option_and_then (cut_fields (one.digits, rest)) (around_blank l)) two.is
+    ∙ ap (option_and_then (cut_fields (one.digits, rest))) (around-is 32 two.digits weight (no_blank two.digits two.all))
+    ∙ ap (option_and_then (λ (r : ℕ). option_and_then (λ (c : ℕ). option_map (λ (m : ℕ). entry_by r c m) (weight_number_of weight)) (id_of two.digits))) (number_within (2 ^ 32) row one.digits one.reads of_row)
+    ∙ ap (option_and_then (λ (c : ℕ). option_map (λ (m : ℕ). entry_by row c m) (weight_number_of weight))) (number_within (2 ^ 32) column two.digits two.reads of_column)
     ∙ ap (option_map (λ (m : ℕ). entry_by row column m)) weighs

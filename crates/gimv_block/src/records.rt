@@ -1,10 +1,11 @@
-ghost use Rattle.std.specs.Prelude.{◌≡◌, ◌<◌, ◌^◌, true, Some, length, option_map, position, IfOk, IfSome};
-ghost use Rattle.gimv_base.specs.Fields.{parts_at};
+ghost use Rattle.std.specs.Prelude.{◌≡◌, ◌<◌, ◌≤◌, ◌^◌, true, Some, length, option_map, option_and_then, position, IfOk, IfSome};
+ghost use Rattle.gimv_base.specs.Fields.{around_blank, parts_at};
 ghost use Rattle.std.specs.List.{list_all};
 ghost use Rattle.gimv_core.specs.Algebras.{FitsMsg};
 ghost use Rattle.gimv_block.specs.Blocks.{block_count, block_size};
 ghost use Rattle.gimv_block.specs.Items.{from_first, items_of};
 ghost use Rattle.gimv_block.specs.MatrixEntries.{entry_of};
+ghost use Rattle.gimv_block.specs.Numbers.{with_number};
 ghost use Rattle.gimv_block.specs.BlockRecords.{any_tagged, block_pair_of, block_record_of, is_dot, cut_record_of, item_of, link_record_of, matrix_record_of, part_of, seat_record_of, weight_number_of};
 
 use crate::blocks::Blocks;
@@ -52,6 +53,21 @@ fn any_tag(text: &[u8]) -> Option<(u8, &[u8])>
     }
 }
 
+/// The number below `bound`, which is at most 2^32, before the first blank, and what stands behind it. `None` where the text
+/// is of another kind.
+fn first_number(text: &[u8], bound: u64) -> Option<(u32, &[u8])>
+    requires { bound ≤ 2 ^ 32 }
+    ensures { option_map (λ found. (found.0, found.1.now)) result ≡ option_and_then (with_number bound) (around_blank text.now) }
+{
+    if let Some((number, rest)) = number_before(text, b' ') {
+        if number < bound {
+            return Some((number as u32, rest));
+        }
+    }
+    let (number, rest) = around_blank(text)?;
+    Some((read_below(number, bound)?, rest))
+}
+
 /// The row's block of a line of items of a column's block, and the text of the items. `None` where the record is of
 /// another kind.
 pub fn read_link(line: &[u8], blocks: Blocks, column_block: u32) -> Option<(u32, &[u8])>
@@ -59,8 +75,7 @@ pub fn read_link(line: &[u8], blocks: Blocks, column_block: u32) -> Option<(u32,
 {
     let (_, value) = split_pair(line);
     let (tag, rest) = any_tag(value)?;
-    let (row_block, items) = around_blank(rest)?;
-    let row_block = read_below(row_block, u64::from(blocks.count()))?;
+    let (row_block, items) = first_number(rest, u64::from(blocks.count()))?;
     let wanted = if row_block == column_block {
         b'W'
     } else {
@@ -288,6 +303,9 @@ fn first_dot(text: &[u8]) -> Option<usize>
 pub fn read_cut(line: &[u8]) -> Option<MatrixEntry>
     ensures { option_map entry_of result ≡ cut_record_of line.now }
 {
+    if let Some(entry) = quick_cut(line) {
+        return Some(entry);
+    }
     let (_, value) = split_pair(line);
     let (row, rest) = around_blank(value)?;
     let (column, weight) = around_blank(rest)?;
@@ -297,6 +315,24 @@ pub fn read_cut(line: &[u8]) -> Option<MatrixEntry>
     Some(MatrixEntry {
         row,
         column,
+        weight,
+    })
+}
+
+/// The same in one pass, for offsets of no more than 19 digits. `None` also at other records.
+fn quick_cut(line: &[u8]) -> Option<MatrixEntry>
+    ensures { IfSome result (λ entry. Some (entry_of entry) ≡ cut_record_of line.now) }
+{
+    let (_, value) = split_pair(line);
+    let (row, rest) = number_before(value, b' ')?;
+    let (column, weight) = number_before(rest, b' ')?;
+    if column >= IDS || row >= IDS {
+        return None;
+    }
+    let weight = read_weight_number(weight)?;
+    Some(MatrixEntry {
+        row: row as u32,
+        column: column as u32,
         weight,
     })
 }
