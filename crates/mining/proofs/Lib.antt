@@ -13,3 +13,4 @@ pub mod Wholes
 pub mod JobsAdded
 pub mod JobsAfter
 pub mod Failures
+pub mod StoredLemmas

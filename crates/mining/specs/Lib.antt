@@ -9,3 +9,4 @@ pub mod Acked
 pub mod Iterations
 pub mod Jobs
 pub mod Failures
+pub mod Stored

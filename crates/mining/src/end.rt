@@ -9,7 +9,7 @@ ghost use Rattle.conf.specs.Rules.{is_clustered};
 ghost use Rattle.conf.specs.Limits.{IsWithinLimits};
 ghost use Rattle.job.specs.Inputs.{bytes_at_each};
 ghost use Rattle.report.specs.Lines.{done_text};
-ghost use Rattle.mining.specs.Table.{part_paths};
+ghost use Rattle.mining.specs.Table.{matrix_for, numbers_for, part_paths};
 ghost use Rattle.mining.specs.Flow.{flow, last_of, mining_of, most_of, total_in};
 ghost use Rattle.mining.specs.Kept.{AllKept, Kept};
 ghost use Rattle.mining.specs.Between.{AllFirm, IsSure, KeepsWhole};
@@ -20,6 +20,7 @@ ghost use Rattle.mining.specs.Stops.{IsOfJobs, IsOfMining};
 ghost use Rattle.mining.specs.Jobs.{FinishesWithin, GainsWithin, rank_after, rank_behind, rank_of_end};
 ghost use Rattle.mining.specs.Failures.{IsOfNoTask, TellsOfAnswer};
 ghost use Rattle.job.specs.Failing.{gained};
+ghost use Rattle.mining.specs.Stored.{IfBadStore, IsNotAsMade};
 
 use crate::place::Place;
 use crate::run::{Reached, is_end, make_result, run_iterations};
@@ -48,6 +49,8 @@ fn read_total<S: Site>(alloc: Global, site: &mut S, conf: &Conf) -> Result<u128,
     ensures say_faults { S.say_faults site.new ≡ S.say_faults site.old }
     ensures cause { HasCause Stop.Disk (S.faults site.old) (S.faults site.new) result }
     ensures err { IfErr result IsOfJobs }
+    ensures stored { S.tells → IsSure Place.Results (files (S.told site.old))
+        → IfErr result (IfBadStore (IsNotAsMade conf.now (files (S.told site.new)))) }
 {
     let folder = Place::Results.path(alloc)?;
     Ok(total(alloc, site, &folder, conf.reducers, conf.command)?)
@@ -83,6 +86,8 @@ fn result_total<S: Site>(alloc: Global, site: &mut S, conf: &Conf, last: u32) ->
     ensures say_faults { S.say_faults site.new ≡ S.say_faults site.old }
     ensures cause { HasCause Stop.Disk (S.faults site.old) (S.faults site.new) result }
     ensures err { IfErr result IsOfJobs }
+    ensures stored { S.tells → IsSure (numbers_for conf.now.form last) (files (S.told site.old))
+        → IfErr result (IfBadStore (IsNotAsMade conf.now (files (S.told site.new)))) }
 {
     make_result(alloc, site, conf, last)?;
     read_total(alloc, site, conf)
@@ -122,21 +127,11 @@ pub fn finish<S: Site>(alloc: Global, site: &mut S, conf: &Conf, last: Reached) 
     ensures cause { HasCause Stop.Disk (S.faults site.old) (S.faults site.new) result }
     ensures say_cause { HasCause Stop.Say (S.say_faults site.old) (S.say_faults site.new) result }
     ensures err { IfErr result IsOfMining }
+    ensures stored { S.tells → IsSure (numbers_for conf.now.form last.k) (files (S.told site.old))
+        → IfErr result (IfBadStore (IsNotAsMade conf.now (files (S.told site.new)))) }
 {
     let total = result_total(alloc, site, conf, last.k)?;
     say_done(alloc, site, conf, last, total)
-}
-
-/// An iteration that is the last one that there may be, but still counts a change.
-fn not_ended(alloc: Global, last: Reached) -> Stop
-    ensures no_disk { result ≢ Stop.Disk }
-    ensures no_task { IsOfNoTask result }
-    ensures err { IsOfJobs result }
-{
-    match Place::Vector(last.k).path(alloc) {
-        Ok(path) => Stop::BadStore { path, line: 1 },
-        Err(_) => Stop::NoMemory,
-    }
 }
 
 /// Goes on after an iteration: makes the others, and then the result, and says their lines.
@@ -176,10 +171,15 @@ pub fn mine_on<S: Site>(alloc: Global, site: &mut S, conf: &Conf, from: Reached)
     ensures cause { HasCause Stop.Disk (S.faults site.old) (S.faults site.new) result }
     ensures say_cause { HasCause Stop.Say (S.say_faults site.old) (S.say_faults site.new) result }
     ensures err { IfErr result IsOfMining }
+    // A place that is named as bad is one that isn't as it was made.
+    ensures stored { S.tells → is_clustered conf.now.form ≡ false
+        → IsSure (matrix_for conf.now.form) (files (S.told site.old))
+        → IfErr result (IfBadStore (IsNotAsMade conf.now (files (S.told site.new)))) }
 {
     let last = run_iterations(alloc, site, conf, from)?;
     if !is_end(conf, last) {
-        return Err(not_ended(alloc, last));
+        // The bound was refused where the last vector was counted, so no run comes here.
+        return Err(Stop::NoMemory);
     }
     finish(alloc, site, conf, last)
 }

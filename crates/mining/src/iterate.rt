@@ -1,4 +1,4 @@
-ghost use Rattle.std.specs.Prelude.{◌≡◌, ◌<◌, ◌≤◌, ◌^◌, [], List, Some, IfOk, OnOk, IsErrOf, length, IfErr};
+ghost use Rattle.std.specs.Prelude.{◌≡◌, ◌<◌, ◌≤◌, ◌^◌, ◌-◌, [], List, Some, IfOk, OnOk, IsErrOf, length, IfErr};
 ghost use Rattle.dir_disk.specs.Causes.{HasCause};
 ghost use Rattle.dir_disk.specs.Moments.{Both, EachImage, IsFresh, Through, Told, files};
 ghost use Rattle.dir_disk.specs.Says.{Say};
@@ -8,7 +8,7 @@ ghost use Rattle.conf.specs.Limits.{IsWithinLimits};
 ghost use Rattle.job.specs.Inputs.{bytes_at_each};
 ghost use Rattle.report.specs.Lines.{iteration_text};
 ghost use Rattle.mining.specs.Places.{folder_of};
-ghost use Rattle.mining.specs.Table.{part_paths};
+ghost use Rattle.mining.specs.Table.{matrix_for, part_paths};
 ghost use Rattle.mining.specs.Flow.{Mining, changes_in, count_of, mining_of};
 ghost use Rattle.mining.specs.Kept.{AllKept, Kept};
 ghost use Rattle.mining.specs.Between.{AllFirm, IsSure, KeepsWhole};
@@ -19,6 +19,7 @@ ghost use Rattle.mining.specs.Stops.{IsOfJobs, IsOfMining};
 ghost use Rattle.mining.specs.Jobs.{FinishesWithin, GainsWithin, rank_after, rank_from};
 ghost use Rattle.mining.specs.Failures.{IsOfNoTask, TellsOfAnswer};
 ghost use Rattle.job.specs.Failing.{gained};
+ghost use Rattle.mining.specs.Stored.{IfBadStore, IsNoBadStore, IsNotAsMade, NamesChange};
 
 use crate::make::ensure_folder;
 use crate::place::Place;
@@ -56,6 +57,9 @@ fn make_vector<S: Site>(alloc: Global, site: &mut S, conf: &Conf, k: u32) -> Res
     ensures say_faults { S.say_faults site.new ≡ S.say_faults site.old }
     ensures cause { HasCause Stop.Disk (S.faults site.old) (S.faults site.new) result }
     ensures err { IfErr result IsOfJobs }
+    ensures stored { S.tells → IsSure (matrix_for conf.now.form) (files (S.told site.old))
+        → IsSure (Place.Vector (k - 1)) (files (S.told site.old))
+        → IfErr result (IfBadStore (IsNotAsMade conf.now (files (S.told site.new)))) }
 {
     ensure_folder(alloc, site, conf, 0, Place::Messages(k))?;
     ensure_folder(alloc, site, conf, 0, Place::Vector(k))
@@ -73,6 +77,7 @@ fn check_bound(
     ensures no_disk { ¬ IsErrOf result Stop.Disk }
     ensures no_task { IfErr result IsOfNoTask }
     ensures err { IfErr result IsOfJobs }
+    ensures stored { IfErr result (IfBadStore (NamesChange conf.now k folder.now first)) }
 {
     match first {
         Some(place) if conf.command == Command::Hcc && k == conf.nodes => {
@@ -104,6 +109,8 @@ pub fn count_changed<S: Site>(alloc: Global, site: &mut S, conf: &Conf, k: u32) 
     ensures say_faults { S.say_faults site.new ≡ S.say_faults site.old }
     ensures cause { HasCause Stop.Disk (S.faults site.old) (S.faults site.new) result }
     ensures err { IfErr result IsOfJobs }
+    ensures stored { S.tells → k < 10 ^ 10 → IsSure (Place.Vector k) (files (S.told site.old))
+        → IfErr result (IfBadStore (IsNotAsMade conf.now (files (S.told site.new)))) }
 {
     let folder = Place::Vector(k).path(alloc)?;
     let changes = count_changes(alloc, site, &folder, conf.reducers)?;
@@ -140,6 +147,9 @@ fn new_vector<S: Site>(alloc: Global, site: &mut S, conf: &Conf, k: u32) -> Resu
     ensures say_faults { S.say_faults site.new ≡ S.say_faults site.old }
     ensures cause { HasCause Stop.Disk (S.faults site.old) (S.faults site.new) result }
     ensures err { IfErr result IsOfJobs }
+    ensures stored { S.tells → IsSure (matrix_for conf.now.form) (files (S.told site.old))
+        → IsSure (Place.Vector (k - 1)) (files (S.told site.old))
+        → IfErr result (IfBadStore (IsNotAsMade conf.now (files (S.told site.new)))) }
 {
     make_vector(alloc, site, conf, k)?;
     count_changed(alloc, site, conf, k)
@@ -166,6 +176,7 @@ pub fn drop_messages<S: Site>(alloc: Global, site: &mut S, k: u32) -> Result<(),
     ensures say_faults { S.say_faults site.new ≡ S.say_faults site.old }
     ensures cause { HasCause Stop.Disk (S.faults site.old) (S.faults site.new) result }
     ensures err { IfErr result IsOfJobs }
+    ensures no_store { IfErr result IsNoBadStore }
 {
     let folder = Place::Messages(k).path(alloc)?;
     drop_folder(alloc, site, &folder)?;
@@ -198,6 +209,7 @@ fn announce<S: Site>(alloc: Global, site: &mut S, k: u32, changed: u64) -> Resul
     ensures cause { HasCause Stop.Disk (S.faults site.old) (S.faults site.new) result }
     ensures say_cause { HasCause Stop.Say (S.say_faults site.old) (S.say_faults site.new) result }
     ensures err { IfErr result IsOfMining }
+    ensures no_store { IfErr result IsNoBadStore }
 {
     say_iteration(alloc, site, k, changed)?;
     drop_messages(alloc, site, k)
@@ -247,6 +259,9 @@ pub fn next_iteration<S: Site>(
     ensures cause { HasCause Stop.Disk (S.faults site.old) (S.faults site.new) result }
     ensures say_cause { HasCause Stop.Say (S.say_faults site.old) (S.say_faults site.new) result }
     ensures err { IfErr result IsOfMining }
+    ensures stored { S.tells → IsSure (matrix_for conf.now.form) (files (S.told site.old))
+        → IsSure (Place.Vector (k - 1)) (files (S.told site.old))
+        → IfErr result (IfBadStore (IsNotAsMade conf.now (files (S.told site.new)))) }
 {
     let changed = new_vector(alloc, site, conf, k)?;
     announce(alloc, site, k, changed)?;

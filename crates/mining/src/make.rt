@@ -15,6 +15,8 @@ ghost use Rattle.mining.specs.Stops.{IsOfJobs};
 ghost use Rattle.mining.specs.Jobs.{FinishesWithin, GainsWithin};
 ghost use Rattle.mining.specs.Failures.{TellsOfAnswer};
 ghost use Rattle.job.specs.Failing.{gained};
+ghost use Rattle.mining.specs.Stored.{IfBadStore, LacksFile};
+ghost use Rattle.mining.specs.Table.{paths_read};
 
 use crate::check::check_parts;
 use crate::place::Place;
@@ -57,6 +59,8 @@ pub fn make_folder<S: Site>(
     ensures say_faults { S.say_faults site.new ≡ S.say_faults site.old }
     ensures cause { HasCause Stop.Disk (S.faults site.old) (S.faults site.new) result }
     ensures err { IfErr result IsOfJobs }
+    ensures stored { S.tells
+        → IfErr result (IfBadStore (LacksFile (paths_read conf.now last place) (files (S.told site.new)))) }
 {
     let spec = job_spec(alloc, conf, last, place)?;
     check_parts(alloc, site, &spec.inputs)?;
@@ -105,6 +109,8 @@ pub fn ensure_folder<S: Site>(
     ensures say_faults { S.say_faults site.new ≡ S.say_faults site.old }
     ensures cause { HasCause Stop.Disk (S.faults site.old) (S.faults site.new) result }
     ensures err { IfErr result IsOfJobs }
+    ensures stored { S.tells
+        → IfErr result (IfBadStore (LacksFile (paths_read conf.now last place) (files (S.told site.new)))) }
 {
     let folder = place.path(alloc)?;
     if is_whole(alloc, site, &folder)? {

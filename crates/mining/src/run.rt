@@ -16,6 +16,8 @@ ghost use Rattle.mining.specs.Stops.{IsOfJobs, IsOfMining};
 ghost use Rattle.mining.specs.Jobs.{FinishesWithin, GainsWithin, rank_after, rank_behind, rank_of_end};
 ghost use Rattle.mining.specs.Failures.{TellsOfAnswer};
 ghost use Rattle.job.specs.Failing.{gained};
+ghost use Rattle.mining.specs.Stored.{IfBadStore, IsNotAsMade};
+ghost use Rattle.mining.specs.Table.{matrix_for, numbers_for};
 
 use crate::iterate::next_iteration;
 use crate::make::ensure_folder;
@@ -104,6 +106,8 @@ pub fn run_iterations<S: Site>(
     ensures cause { HasCause Stop.Disk (S.faults site.old) (S.faults site.new) result }
     ensures say_cause { HasCause Stop.Say (S.say_faults site.old) (S.say_faults site.new) result }
     ensures err { IfErr result IsOfMining }
+    ensures stored { S.tells → IsSure (matrix_for conf.now.form) (files (S.told site.old))
+        → IfErr result (IfBadStore (IsNotAsMade conf.now (files (S.told site.new)))) }
 {
     let mut at = from;
     let most = most_of(conf);
@@ -140,6 +144,8 @@ pub fn make_result<S: Site>(alloc: Global, site: &mut S, conf: &Conf, last: u32)
     ensures say_faults { S.say_faults site.new ≡ S.say_faults site.old }
     ensures cause { HasCause Stop.Disk (S.faults site.old) (S.faults site.new) result }
     ensures err { IfErr result IsOfJobs }
+    ensures stored { S.tells → IsSure (numbers_for conf.now.form last) (files (S.told site.old))
+        → IfErr result (IfBadStore (IsNotAsMade conf.now (files (S.told site.new)))) }
 {
     ensure_folder(alloc, site, conf, last, Place::Results)
 }

@@ -9,6 +9,7 @@ ghost use Rattle.mining.specs.Acked.{Acks};
 ghost use Rattle.mining.specs.Between.{IsSure};
 ghost use Rattle.mining.specs.Stops.{IsOfMining};
 ghost use Rattle.mining.specs.Failures.{IsOfNoTask};
+ghost use Rattle.mining.specs.Stored.{IsNoBadStore};
 
 use crate::place::Place;
 use crate::run::Reached;
@@ -34,6 +35,7 @@ pub fn say_iteration<S: Site>(alloc: Global, site: &mut S, k: u32, changed: u64)
     ensures no_disk { ¬ IsErrOf result Stop.Disk }
     ensures say_cause { HasCause Stop.Say (S.say_faults site.old) (S.say_faults site.new) result }
     ensures err { IfErr result IsOfMining }
+    ensures no_store { IfErr result IsNoBadStore }
 {
     let line = iteration_line(alloc, k, changed)?;
     site.say(alloc, &line)?;
@@ -56,6 +58,7 @@ pub fn say_resumed<S: Site>(alloc: Global, site: &mut S, k: u32) -> Result<(), S
     ensures no_disk { ¬ IsErrOf result Stop.Disk }
     ensures say_cause { HasCause Stop.Say (S.say_faults site.old) (S.say_faults site.new) result }
     ensures err { IfErr result IsOfMining }
+    ensures no_store { IfErr result IsNoBadStore }
 {
     let line = resumed_line(alloc, k)?;
     site.say(alloc, &line)?;
@@ -84,6 +87,7 @@ pub fn say_done<S: Site>(
     ensures no_disk { ¬ IsErrOf result Stop.Disk }
     ensures say_cause { HasCause Stop.Say (S.say_faults site.old) (S.say_faults site.new) result }
     ensures err { IfErr result IsOfMining }
+    ensures no_store { IfErr result IsNoBadStore }
 {
     let line = done_line(alloc, conf, last.k, last.changed == 0, total)?;
     site.say(alloc, &line)?;

@@ -12,6 +12,8 @@ use Rattle.mining.specs.Kept.{Kept}
 use Rattle.mining.specs.Between.{KeepsWhole}
 use Rattle.mining.proofs.LastLemmas.{done_is, last_some}
 use Rattle.mining.proofs.AckLemmas.{acks_through}
+use Rattle.mining.specs.Stored.{IsNotAsMade}
+use Rattle.mining.proofs.StoredLemmas.{err_is, err_none}
 use Rattle.mining.proofs.end.finish.Goals as goal
 
 pub returns-in_err-total-clause-acked : goal.returns-in_err-total-clause-acked
@@ -66,3 +68,12 @@ returns-in_err-total-clause-answers g c =
 pub returns-clause-answers : goal.returns-clause-answers
 returns-clause-answers g c =
     stays_answer (Unit {0}) (g.S.Site.seen c.args.site.now) (g.S.Site.seen c.result_total.new.site) (g.S.Site.seen c.say_done.new.site) c.say_done.result c.say_done.ensures.seen c.say_done.ensures.no_task c.in_ok-total.ensures.answers
+
+pub returns-in_err-total-clause-stored : goal.returns-in_err-total-clause-stored
+returns-in_err-total-clause-stored g c =
+    λ tells numbers.
+    err_is (IsNotAsMade c.args.conf.now (files (g.S.Dir.told c.result_total.new.site))) c.from_residual.result c.in_err-total.field-0.0 c.from_residual.ensures.1 (c.in_err-total.ensures.stored tells numbers)
+
+pub returns-clause-stored : goal.returns-clause-stored
+returns-clause-stored g c =
+    λ tells numbers. err_none (IsNotAsMade c.args.conf.now (files (g.S.Dir.told c.say_done.new.site))) c.say_done.result c.say_done.ensures.no_store

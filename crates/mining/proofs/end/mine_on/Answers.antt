@@ -1,4 +1,5 @@
 use Rattle.mining.proofs.Failures.{answer_err, answer_then, stop_of_none}
+use Rattle.mining.specs.declared.stop.Stop.TheVariants.{NoMemory}
 use Rattle.job.specs.Failing.{gained}
 use Rattle.mining.proofs.JobsAdded.{gain_within, behind_gain, behind_finish, if_done, steps_on}
 use Rattle.mining.specs.Jobs.{FinishesWithin, rank_after, rank_of_end, rank_behind}
@@ -13,6 +14,9 @@ use Rattle.mining.specs.Between.{IsSure}
 use Rattle.mining.specs.Iterations.{IsAt, IsDone, console_after, done_line_at, lines_after}
 use Rattle.mining.proofs.EnsureLemmas.{kept_after, stays_after, stays_then, sure_kept}
 use Rattle.mining.proofs.LastLemmas.{all_then, end_some, is_last, most_small, on_both, part_longer, part_then, same_last}
+use Rattle.mining.specs.Stored.{IsNotAsMade}
+use Rattle.mining.specs.declared.place.Place.{Place}
+use Rattle.mining.proofs.StoredLemmas.{err_is, numbers_are}
 use Rattle.mining.proofs.end.mine_on.Goals as goal
 
 pub returns-in_err-last-clause-part : goal.returns-in_err-last-clause-part
@@ -105,8 +109,25 @@ returns-in_err-last-clause-answers g c =
 
 pub returns-then-not-is_end-clause-answers : goal.returns-then-not-is_end-clause-answers
 returns-then-not-is_end-clause-answers g c =
-    stop_of_none (gained (g.S.Site.seen c.args.site.now).log (g.S.Site.seen c.run_iterations.new.site).log) c.not_ended.result c.not_ended.ensures.no_task c.in_ok-last.ensures.answers
+    stop_of_none (gained (g.S.Site.seen c.args.site.now).log (g.S.Site.seen c.run_iterations.new.site).log) NoMemory tt c.in_ok-last.ensures.answers
 
 pub returns-clause-answers : goal.returns-clause-answers
 returns-clause-answers g c =
     let small = most_small c.args.conf.now c.requires.limits in let most = c.in_ok-last.ensures.few.1 in answer_then g.S.Dir.tells g.S.Site.gives c.args.conf.now (g.S.Site.seen c.args.site.now) (g.S.Site.seen c.run_iterations.new.site) (g.S.Site.seen c.finish.new.site) (g.S.Site.given c.args.site.now) (g.S.Site.given c.run_iterations.new.site) (g.S.Site.given c.finish.new.site) (g.S.Dir.told c.run_iterations.new.site) (g.S.Dir.told c.finish.new.site) (Unit {0}) (rank_after c.args.from.k) (rank_after c.in_ok-last.last.k) rank_of_end rank_behind c.finish.result (omega (arith, small, most)) c.in_ok-last.ensures.logged c.finish.ensures.log c.in_ok-last.ensures.answers c.finish.ensures.answers
+
+pub returns-in_err-last-clause-stored : goal.returns-in_err-last-clause-stored
+returns-in_err-last-clause-stored g c =
+    λ tells form matrix.
+    err_is (IsNotAsMade c.args.conf.now (files (g.S.Dir.told c.run_iterations.new.site))) c.from_residual.result c.in_err-last.field-0.0 c.from_residual.ensures.1 (c.in_err-last.ensures.stored tells matrix)
+
+pub returns-clause-stored : goal.returns-clause-stored
+returns-clause-stored g c =
+    λ tells form matrix.
+    let e : Told = g.S.Dir.told c.run_iterations.new.site in
+    c.finish.ensures.stored tells (subst (λ (p : Place). IsSure p (files e)) (sym (numbers_are c.args.conf.now.form c.in_ok-last.last.k form)) (c.in_ok-last.ensures.sure tells))
+
+pub returns-in_err-last-clause-kept : goal.returns-in_err-last-clause-kept
+returns-in_err-last-clause-kept g c = λ edges tells kept start form. c.run_iterations.ensures.kept edges tells kept start
+
+pub returns-then-not-is_end-clause-kept : goal.returns-then-not-is_end-clause-kept
+returns-then-not-is_end-clause-kept g c = λ edges tells kept start form. c.run_iterations.ensures.kept edges tells kept start

@@ -13,6 +13,8 @@ use Rattle.dir_disk.proofs.Through.{then_goes}
 use Rattle.mining.specs.Flow.{Mining, flow, mining_of, total_in}
 use Rattle.mining.specs.Kept.{Kept}
 use Rattle.mining.proofs.EnsureLemmas.{kept_after, looks_keep, looks_stay, stays_then}
+use Rattle.mining.specs.Stored.{IsNotAsMade}
+use Rattle.mining.proofs.StoredLemmas.{err_is}
 use Rattle.mining.proofs.end.result_total.Goals as goal
 
 pub returns-clause-stays : goal.returns-clause-stays
@@ -58,3 +60,12 @@ returns-in_err-make_result-clause-answers g c =
 pub returns-clause-answers : goal.returns-clause-answers
 returns-clause-answers g c =
     stays_answer ℕ (g.S.Site.seen c.args.site.now) (g.S.Site.seen c.make_result.new.site) (g.S.Site.seen c.read_total.new.site) c.read_total.result c.read_total.ensures.seen c.read_total.ensures.no_task c.in_ok-make_result.ensures.answers
+
+pub returns-in_err-make_result-clause-stored : goal.returns-in_err-make_result-clause-stored
+returns-in_err-make_result-clause-stored g c =
+    λ tells numbers.
+    err_is (IsNotAsMade c.args.conf.now (files (g.S.Dir.told c.make_result.new.site))) c.from_residual.result c.in_err-make_result.field-0.0 c.from_residual.ensures.1 (c.in_err-make_result.ensures.stored tells numbers)
+
+pub returns-clause-stored : goal.returns-clause-stored
+returns-clause-stored g c =
+    λ tells numbers. c.read_total.ensures.stored tells (c.in_ok-make_result.ensures.sure tells)

@@ -13,6 +13,11 @@ use Rattle.mining.specs.Kept.{AllKept, Kept}
 use Rattle.mining.specs.Iterations.{IsNext}
 use Rattle.mining.proofs.EnsureLemmas.{kept_after, stays_after, stays_then}
 use Rattle.mining.proofs.DueLemmas.{due_messages, due_vector, next_kept, read_messages, read_vector}
+use Rattle.std.proofs.Common.{◌-◌}
+use Rattle.mining.specs.Stored.{IsNotAsMade, LacksFile}
+use Rattle.mining.specs.Table.{matrix_for, paths_read}
+use Rattle.mining.proofs.EnsureLemmas.{sure_kept}
+use Rattle.mining.proofs.StoredLemmas.{err_is, err_weaker, matrix_there, messages_lack, messages_stand, named_weaker, vector_lacks}
 use Rattle.mining.proofs.iterate.make_vector.Goals as goal
 
 pub returns-in_err-ensure_folder-clause-kept : goal.returns-in_err-ensure_folder-clause-kept
@@ -61,3 +66,26 @@ returns-in_err-ensure_folder-clause-answers g c =
 pub returns-clause-answers : goal.returns-clause-answers
 returns-clause-answers g c =
     let m = rank_messages c.args.k in let v = rank_vector c.args.k in answer_then g.S.Dir.tells g.S.Site.gives c.args.conf.now (g.S.Site.seen c.args.site.now) (g.S.Site.seen c.ensure_folder.new.site) (g.S.Site.seen c.ensure_folder-2.new.site) (g.S.Site.given c.args.site.now) (g.S.Site.given c.ensure_folder.new.site) (g.S.Site.given c.ensure_folder-2.new.site) (g.S.Dir.told c.ensure_folder.new.site) (g.S.Dir.told c.ensure_folder-2.new.site) (Unit {0}) (rank_of (Messages c.args.k)) (rank_of (Messages c.args.k) + 1) (rank_of (Vector c.args.k)) (rank_of (Vector c.args.k) + 1) c.ensure_folder-2.result (omega (arith, m, v)) (c.in_ok-ensure_folder.ensures.logged refl) (c.ensure_folder-2.ensures.log refl) c.in_ok-ensure_folder.ensures.answers c.ensure_folder-2.ensures.answers
+
+pub returns-in_err-ensure_folder-clause-stored : goal.returns-in_err-ensure_folder-clause-stored
+returns-in_err-ensure_folder-clause-stored g c =
+    λ tells matrix vector.
+    let d : Told = g.S.Dir.told c.args.site.now in
+    let e : Told = g.S.Dir.told c.ensure_folder.new.site in
+    let conf = c.args.conf.now in
+    let k = c.args.k in
+    let stop = c.in_err-ensure_folder.field-0.0 in
+    let keeps = stays_after d e (c.ensure_folder.ensures.stays tells) in
+    let there = matrix_there conf.form in
+    let some = c.requires.some in
+    let few = c.requires.few in
+    err_is (IsNotAsMade conf (files e)) c.from_residual.result stop c.from_residual.ensures.1 (named_weaker (LacksFile (paths_read conf 0 (Messages k)) (files e)) (IsNotAsMade conf (files e)) (messages_lack conf 0 k (files e) some few (sure_kept (matrix_for conf.form) (files d) (files e) there.0 there.1 keeps matrix) (sure_kept (Vector (k - 1)) (files d) (files e) (omega (arith, some, few)) refl keeps vector)) stop (c.in_err-ensure_folder.ensures.stored tells))
+
+pub returns-clause-stored : goal.returns-clause-stored
+returns-clause-stored g c =
+    λ tells matrix vector.
+    let e : Told = g.S.Dir.told c.ensure_folder.new.site in
+    let f : Told = g.S.Dir.told c.ensure_folder-2.new.site in
+    let conf = c.args.conf.now in
+    let k = c.args.k in
+    err_weaker (LacksFile (paths_read conf 0 (Vector k)) (files f)) (IsNotAsMade conf (files f)) c.ensure_folder-2.result (vector_lacks conf 0 k (files f) c.requires.some c.requires.few (messages_stand k (files e) (files f) c.requires.some c.requires.few (c.ensure_folder-2.ensures.outside tells) (c.in_ok-ensure_folder.ensures.sure tells))) (c.ensure_folder-2.ensures.stored tells)

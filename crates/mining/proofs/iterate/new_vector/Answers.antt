@@ -13,6 +13,8 @@ use Rattle.mining.specs.Flow.{Mining, changes_in, count_of, mining_of}
 use Rattle.mining.specs.Kept.{Kept}
 use Rattle.mining.proofs.EnsureLemmas.{kept_after, looks_keep, looks_stay, stays_then}
 use Rattle.mining.proofs.DueLemmas.{count_is, if_ok}
+use Rattle.mining.specs.Stored.{IsNotAsMade}
+use Rattle.mining.proofs.StoredLemmas.{err_is}
 use Rattle.mining.proofs.iterate.new_vector.Goals as goal
 
 pub returns-clause-stays : goal.returns-clause-stays
@@ -58,3 +60,12 @@ returns-in_err-make_vector-clause-answers g c =
 pub returns-clause-answers : goal.returns-clause-answers
 returns-clause-answers g c =
     stays_answer ℕ (g.S.Site.seen c.args.site.now) (g.S.Site.seen c.make_vector.new.site) (g.S.Site.seen c.count_changed.new.site) c.count_changed.result c.count_changed.ensures.seen c.count_changed.ensures.no_task c.in_ok-make_vector.ensures.answers
+
+pub returns-in_err-make_vector-clause-stored : goal.returns-in_err-make_vector-clause-stored
+returns-in_err-make_vector-clause-stored g c =
+    λ tells matrix vector.
+    err_is (IsNotAsMade c.args.conf.now (files (g.S.Dir.told c.make_vector.new.site))) c.from_residual.result c.in_err-make_vector.field-0.0 c.from_residual.ensures.1 (c.in_err-make_vector.ensures.stored tells matrix vector)
+
+pub returns-clause-stored : goal.returns-clause-stored
+returns-clause-stored g c =
+    λ tells matrix vector. c.count_changed.ensures.stored tells c.requires.few (c.in_ok-make_vector.ensures.sure tells)

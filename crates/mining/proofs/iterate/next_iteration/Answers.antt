@@ -11,6 +11,8 @@ use Rattle.mining.specs.Kept.{Kept}
 use Rattle.mining.proofs.AckLemmas.{acks_through}
 use Rattle.mining.proofs.EnsureLemmas.{kept_after, stays_after, stays_then, sure_kept}
 use Rattle.mining.proofs.DueLemmas.{next_kept}
+use Rattle.mining.specs.Stored.{IsNotAsMade}
+use Rattle.mining.proofs.StoredLemmas.{err_is, named_weaker}
 use Rattle.mining.proofs.iterate.next_iteration.Goals as goal
 
 pub returns-in_err-changed-clause-acked : goal.returns-in_err-changed-clause-acked
@@ -88,3 +90,14 @@ returns-in_err-announce-clause-answers g c =
 pub returns-clause-answers : goal.returns-clause-answers
 returns-clause-answers g c =
     stays_done (g.S.Site.seen c.args.site.now) (g.S.Site.seen c.new_vector.new.site) (g.S.Site.seen c.announce.new.site) c.announce.ensures.seen c.in_ok-changed.ensures.answers
+
+pub returns-in_err-changed-clause-stored : goal.returns-in_err-changed-clause-stored
+returns-in_err-changed-clause-stored g c =
+    λ tells matrix vector.
+    err_is (IsNotAsMade c.args.conf.now (files (g.S.Dir.told c.new_vector.new.site))) c.from_residual.result c.in_err-changed.field-0.0 c.from_residual.ensures.1 (c.in_err-changed.ensures.stored tells matrix vector)
+
+pub returns-in_err-announce-clause-stored : goal.returns-in_err-announce-clause-stored
+returns-in_err-announce-clause-stored g c =
+    λ tells matrix vector.
+    let made = IsNotAsMade c.args.conf.now (files (g.S.Dir.told c.announce.new.site)) in
+    err_is made c.from_residual-in_err-announce.result c.in_err-announce.field-0.0 c.from_residual-in_err-announce.ensures.1 (named_weaker (λ path line. ⊥) made (λ path line none. absurd none) c.in_err-announce.field-0.0 c.in_err-announce.ensures.no_store)

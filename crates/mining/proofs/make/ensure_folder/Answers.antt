@@ -9,6 +9,9 @@ use Rattle.mining.specs.Places.{folder_of, rank_of}
 use Rattle.mining.specs.Flow.{mining_of}
 use Rattle.mining.specs.Making.{parts_from}
 use Rattle.mining.proofs.EnsureLemmas.{ensured_firm, ensured_kept, ensured_stays, looked_outside, made_outside}
+use Rattle.mining.specs.Stored.{LacksFile}
+use Rattle.mining.specs.Table.{paths_read}
+use Rattle.mining.proofs.StoredLemmas.{commit_names_none, err_is}
 use Rattle.mining.proofs.make.ensure_folder.Goals as goal
 
 pub returns-clause-firm : goal.returns-clause-firm
@@ -92,3 +95,9 @@ returns-then-branch-clause-answers g c =
 pub returns-clause-answers : goal.returns-clause-answers
 returns-clause-answers g c =
     begun_answer (Unit {0}) (g.S.Site.seen c.args.site.now) (g.S.Site.seen c.is_whole.new.dir) (g.S.Site.seen c.make_folder.new.site) c.make_folder.result (g.met.S.Site.beside_dir c.is_whole.new.dir c.args.site.now c.is_whole.ensures.beside).0 c.make_folder.ensures.answers
+
+pub returns-in_err-is_whole-clause-stored : goal.returns-in_err-is_whole-clause-stored
+returns-in_err-is_whole-clause-stored g c =
+    λ tells.
+    let lacks = LacksFile (paths_read c.args.conf.now c.args.last c.args.place) (files (g.S.Dir.told c.is_whole.new.dir)) in
+    err_is lacks c.from_residual-in_err-is_whole.result (of_commit c.in_err-is_whole.field-0.0) c.from_residual-in_err-is_whole.ensures.1 (commit_names_none lacks c.in_err-is_whole.field-0.0)

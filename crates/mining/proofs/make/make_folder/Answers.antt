@@ -13,6 +13,10 @@ use Rattle.mining.specs.Places.{folder_of, rank_of}
 use Rattle.mining.specs.Making.{parts_from}
 use Rattle.mining.proofs.Looks.{same_after}
 use Rattle.mining.proofs.MakeLemmas.{in_limits, can_begin, looks_make, made_steps, made_finished}
+use Rattle.std.proofs.Common.{◌∙◌}
+use Rattle.mining.specs.Stored.{IfBadStore, LacksFile}
+use Rattle.mining.specs.Table.{paths_read}
+use Rattle.mining.proofs.StoredLemmas.{err_is, job_names_none}
 use Rattle.mining.proofs.make.make_folder.Goals as goal
 
 pub returns-in_err-check_parts-clause-steps : goal.returns-in_err-check_parts-clause-steps
@@ -92,3 +96,16 @@ returns-in_err-run_job-clause-answers g c =
 pub returns-clause-answers : goal.returns-clause-answers
 returns-clause-answers g c =
     begun_done (g.S.Site.seen c.args.site.now) (g.S.Site.seen c.check_parts.new.dir) (g.S.Site.seen c.run_job.new.site) (g.met.S.Site.beside_dir c.check_parts.new.dir c.args.site.now c.check_parts.ensures.beside).0 (job_none c.in_ok-spec.spec.folder (gained (g.S.Site.seen c.check_parts.new.dir).log (g.S.Site.seen c.run_job.new.site).log) (job_names g.S.Dir.tells g.S.Site.gives c.in_ok-spec.spec.folder (plan_of c.in_ok-spec.spec (files (g.S.Dir.told c.check_parts.new.dir))) c.in_ok-spec.spec.slots (g.S.Site.seen c.check_parts.new.dir) (g.S.Site.seen c.run_job.new.site) (g.S.Site.given c.check_parts.new.dir) (g.S.Site.given c.run_job.new.site) (g.S.Dir.told c.run_job.new.site) c.run_job.result c.run_job.ensures.log) c.in_ok-run_job.field-0 c.in_ok-run_job.ensures.tells)
+
+pub returns-in_err-check_parts-clause-stored : goal.returns-in_err-check_parts-clause-stored
+returns-in_err-check_parts-clause-stored g c =
+    λ tells.
+    let e : Told = g.S.Dir.told c.check_parts.new.dir in
+    let stop = c.in_err-check_parts.field-0.0 in
+    err_is (LacksFile (paths_read c.args.conf.now c.args.last c.args.place) (files e)) c.from_residual-in_err-check_parts.result stop c.from_residual-in_err-check_parts.ensures.1 (subst (λ (paths : List Names). IfBadStore (LacksFile paths (files e)) stop) (c.deref.ensures.value ∙ c.in_ok-spec.ensures.inputs) (c.in_err-check_parts.ensures.stored tells))
+
+pub returns-in_err-run_job-clause-stored : goal.returns-in_err-run_job-clause-stored
+returns-in_err-run_job-clause-stored g c =
+    λ tells.
+    let lacks = LacksFile (paths_read c.args.conf.now c.args.last c.args.place) (files (g.S.Dir.told c.run_job.new.site)) in
+    err_is lacks c.from_residual-in_err-run_job.result (of_job c.in_err-run_job.field-0.0) c.from_residual-in_err-run_job.ensures.1 (job_names_none lacks c.in_err-run_job.field-0.0)

@@ -1,17 +1,21 @@
-use Rattle.mining.specs.Between.{KeepsWhole}
+use Rattle.mining.specs.Between.{IsSure, KeepsWhole}
 use Rattle.mining.proofs.Failures.{answer_err, stop_then, done_then, quiet_done}
 use Rattle.mining.specs.declared.run.Reached.{Reached}
 use Rattle.job.specs.Failing.{gained}
 use Rattle.mining.proofs.JobsAdded.{behind_gain, behind_finish, gain_of, gain_within, none_finish, steps_on}
 use Rattle.mining.specs.Jobs.{rank_after, rank_from, rank_of_end}
-use Rattle.std.proofs.Common.{rules, ◌+◌, ◌^◌, ◌<◌, sym, arith, refl, ◌≤◌}
+use Rattle.std.proofs.Common.{rules, ◌≡◌, ℕ, ◌+◌, ◌-◌, ◌^◌, ◌<◌, sym, subst, arith, refl, ◌≤◌}
 use Rattle.dir_disk.specs.Moments.{Told, EachImage, Through, files, Both}
 use Rattle.dir_disk.proofs.Through.{then_goes, started}
+use Rattle.mining.specs.declared.place.Place.TheVariants.{Vector}
 use Rattle.mining.specs.Flow.{Mining, mining_of}
 use Rattle.mining.specs.Kept.{AllKept, Kept}
 use Rattle.mining.specs.Iterations.{IsNext}
-use Rattle.mining.proofs.EnsureLemmas.{kept_after, stays_then}
+use Rattle.mining.proofs.EnsureLemmas.{kept_after, stays_after, stays_then, sure_kept}
 use Rattle.mining.proofs.LastLemmas.{goes_on, most_small, next_up_to, part_of_all, part_of_next, said_more, said_none, up_to_last}
+use Rattle.mining.specs.Stored.{IsNotAsMade}
+use Rattle.mining.specs.Table.{matrix_for}
+use Rattle.mining.proofs.StoredLemmas.{err_is, matrix_there}
 use Rattle.mining.proofs.run.run_iterations.Goals as goal
 
 pub returns-in_err-changed-clause-stays : goal.returns-in_err-changed-clause-stays
@@ -107,3 +111,13 @@ loop-at-init g c =
       said = λ edges tells kept start. said_none (mining_of g.S.Site.gives c.args.conf.now edges) (g.S.Console.said c.args.site.now) c.args.from.k;
       acked = λ entry had tells acks. acks;
     }
+
+pub returns-in_err-changed-clause-stored : goal.returns-in_err-changed-clause-stored
+returns-in_err-changed-clause-stored g c =
+    λ tells matrix.
+    let d : Told = g.S.Dir.told c.args.site.now in
+    let e : Told = g.S.Dir.told c.loop-at.site in
+    let conf = c.args.conf.now in
+    let there = matrix_there conf.form in
+    let before : c.loop-at.at.k ≡ c.loop-at.at.k + 1 - 1 = omega arith in
+    err_is (IsNotAsMade conf (files (g.S.Dir.told c.next_iteration.new.site))) c.from_residual.result c.in_err-changed.field-0.0 c.from_residual.ensures.1 (c.in_err-changed.ensures.stored tells (sure_kept (matrix_for conf.form) (files d) (files e) there.0 there.1 (stays_after d e (c.loop-at.invariant.stays tells)) matrix) (subst (λ (j : ℕ). IsSure (Vector j) (files e)) before (c.loop-at.invariant.sure tells)))
