@@ -30,12 +30,12 @@ below_from s folder a (suc n) =
     let is : a + 1 + n ≡ a + suc n = omega arith in
     sym (append_assoc (records_below s folder a) (records_in s folder a) rest) ∙ ap (λ (m : ℕ). records_below s folder m ++ rest) (sym (add-one a)) ∙ below_from s folder (a + 1) n ∙ ap (records_below s folder) is
 
-records_are : (s : State) (place : Place) (n : ℕ) → records_from 0 (bytes_at_each s (part_paths place n)) ≡ records_below s (folder_of place) n
+pub records_are : (s : State) (place : Place) (n : ℕ) → records_from 0 (bytes_at_each s (part_paths place n)) ≡ records_below s (folder_of place) n
 records_are s place n =
     let is : 0 + n ≡ n = omega arith in
     ap (records_from 0) (map-twice (bytes_at s) (part_of (folder_of place)) (range_with_len 0 n)) ∙ below_from s (folder_of place) 0 n ∙ ap (records_below s (folder_of place)) is
 
-numbered_good : (good : List ℕ → Bool) (part line : ℕ) (texts : List (List ℕ)) → list_all (λ (r : Record). good r.text) (numbered part line texts) ≡ list_all good texts
+pub numbered_good : (good : List ℕ → Bool) (part line : ℕ) (texts : List (List ℕ)) → list_all (λ (r : Record). good r.text) (numbered part line texts) ≡ list_all good texts
 numbered_good good part line [] = refl
 numbered_good good part line (text ∷ texts) = ap (λ (b : Bool). good text && b) (numbered_good good part (line + 1) texts)
 

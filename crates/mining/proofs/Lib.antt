@@ -14,3 +14,4 @@ pub mod JobsAdded
 pub mod JobsAfter
 pub mod Failures
 pub mod StoredLemmas
+pub mod StoredKept

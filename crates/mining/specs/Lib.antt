@@ -10,3 +10,4 @@ pub mod Iterations
 pub mod Jobs
 pub mod Failures
 pub mod Stored
+pub mod Readable

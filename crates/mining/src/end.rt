@@ -20,7 +20,8 @@ ghost use Rattle.mining.specs.Stops.{IsOfJobs, IsOfMining};
 ghost use Rattle.mining.specs.Jobs.{FinishesWithin, GainsWithin, rank_after, rank_behind, rank_of_end};
 ghost use Rattle.mining.specs.Failures.{IsOfNoTask, TellsOfAnswer};
 ghost use Rattle.job.specs.Failing.{gained};
-ghost use Rattle.mining.specs.Stored.{IfBadStore, IsNotAsMade};
+ghost use Rattle.mining.specs.Stored.{IfBadStore, IsNoBadStore, IsNotAsMade};
+ghost use Rattle.mining.specs.Readable.{IsReadable};
 
 use crate::place::Place;
 use crate::run::{Reached, is_end, make_result, run_iterations};
@@ -171,10 +172,13 @@ pub fn mine_on<S: Site>(alloc: Global, site: &mut S, conf: &Conf, from: Reached)
     ensures cause { HasCause Stop.Disk (S.faults site.old) (S.faults site.new) result }
     ensures say_cause { HasCause Stop.Say (S.say_faults site.old) (S.say_faults site.new) result }
     ensures err { IfErr result IsOfMining }
-    // A place that is named as bad is one that isn't as it was made.
+    // A place that is named as bad isn't as it was made; and where what is there is kept, none is named.
     ensures stored { S.tells → is_clustered conf.now.form ≡ false
         → IsSure (matrix_for conf.now.form) (files (S.told site.old))
         → IfErr result (IfBadStore (IsNotAsMade conf.now (files (S.told site.new)))) }
+    ensures none_bad { (edges : List Edge) → let mining = mining_of S.gives conf.now edges in S.tells
+        → AllKept mining (files (S.told site.old)) → IsAt mining from.k from.changed → is_clustered conf.now.form ≡ false
+        → IsSure (matrix_for conf.now.form) (files (S.told site.old)) → IsReadable mining → IfErr result IsNoBadStore }
 {
     let last = run_iterations(alloc, site, conf, from)?;
     if !is_end(conf, last) {

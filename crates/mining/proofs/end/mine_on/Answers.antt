@@ -16,7 +16,8 @@ use Rattle.mining.proofs.EnsureLemmas.{kept_after, stays_after, stays_then, sure
 use Rattle.mining.proofs.LastLemmas.{all_then, end_some, is_last, most_small, on_both, part_longer, part_then, same_last}
 use Rattle.mining.specs.Stored.{IsNotAsMade}
 use Rattle.mining.specs.declared.place.Place.{Place}
-use Rattle.mining.proofs.StoredLemmas.{err_is, numbers_are}
+use Rattle.mining.proofs.StoredLemmas.{err_is, err_weaker, numbers_are}
+use Rattle.mining.proofs.StoredKept.{none_bad}
 use Rattle.mining.proofs.end.mine_on.Goals as goal
 
 pub returns-in_err-last-clause-part : goal.returns-in_err-last-clause-part
@@ -131,3 +132,21 @@ returns-in_err-last-clause-kept g c = λ edges tells kept start form. c.run_iter
 
 pub returns-then-not-is_end-clause-kept : goal.returns-then-not-is_end-clause-kept
 returns-then-not-is_end-clause-kept g c = λ edges tells kept start form. c.run_iterations.ensures.kept edges tells kept start
+
+pub returns-in_err-last-clause-none_bad : goal.returns-in_err-last-clause-none_bad
+returns-in_err-last-clause-none_bad g c =
+    λ edges tells kept start form matrix readable.
+    let mining : Mining = mining_of g.S.Site.gives c.args.conf.now edges in
+    let d : Told = g.S.Dir.told c.args.site.now in
+    let f : Told = g.S.Dir.told c.run_iterations.new.site in
+    let kept_then : AllKept mining (files f) = kept_after mining d f kept (c.run_iterations.ensures.kept edges tells kept start) in
+    err_weaker (IsNotAsMade c.args.conf.now (files f)) (λ path line. ⊥) c.from_residual.result (none_bad mining (files f) (λ q. g.met.S.Dir.now_allowed c.run_iterations.new.site q tells) kept_then readable.last readable.is_last readable.count readable.counts readable.total readable.totals) (returns-in_err-last-clause-stored g c tells form matrix)
+
+pub returns-clause-none_bad : goal.returns-clause-none_bad
+returns-clause-none_bad g c =
+    λ edges tells kept start form matrix readable.
+    let mining : Mining = mining_of g.S.Site.gives c.args.conf.now edges in
+    let d : Told = g.S.Dir.told c.args.site.now in
+    let f : Told = g.S.Dir.told c.finish.new.site in
+    let kept_then : AllKept mining (files f) = kept_after mining d f kept (returns-clause-kept g c edges tells kept start form) in
+    err_weaker (IsNotAsMade c.args.conf.now (files f)) (λ path line. ⊥) c.finish.result (none_bad mining (files f) (λ q. g.met.S.Dir.now_allowed c.finish.new.site q tells) kept_then readable.last readable.is_last readable.count readable.counts readable.total readable.totals) (returns-clause-stored g c tells form matrix)
