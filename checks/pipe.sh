@@ -44,6 +44,13 @@ for _ in $(seq 4097); do printf '3.2\t1 0 1\n'; done >entries
 [ "$(tr ' ' '\n' <lines | awk -F , '/:/ { print NF }' | tr '\n' ' ')" = '4096 1 ' ] || fail 'lines of other lengths for 4,097 entries'
 [ "$(cut -c 1-11 <lines | tr '\t\n' '  ')" = '3 X 2 1:0:1 3 X 2 1:0:1 ' ] || fail 'other lines for 4,097 entries'
 
+# A bad line is told with its bytes, and nothing of it is written.
+status=0
+printf '0\tV 1 0\n1\tV 1 "\xff\n2\tV 1 2\n' | "$child" number hcc 6 >lines 2>told || status=$?
+[ "$status" = 65 ] || fail "a bad line: status $status"
+[ "$(cat told)" = "$(printf 'pegchild: bad line 2\npegchild: the line is "1\\tV 1 \\"\\xff"')" ] || fail "a bad line: $(cat told)"
+[ "$(cat lines)" = '' ] || [ "$(cat lines)" = "$(printf '0\t0')" ] || fail "a bad line: $(cat lines) was written"
+
 # The rows of random blocks are those of their plain computation.
 if command -v python3 >/dev/null; then
     python3 "$top/checks/blocks.py" | cmp -s - "$top/crates/pegrows/data/blocks.rows" || fail 'blocks.rows is not what blocks.py writes'

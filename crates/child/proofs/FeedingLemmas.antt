@@ -1,13 +1,11 @@
 -- A child, bytes by bytes: what is known of it goes on.
-use Rattle.std.proofs.Common.{◌≡◌, ℕ, ◌+◌, ◌-◌, ◌≤◌, ◌<◌, List, [], ◌∷◌, ◌++◌, Some, None, Result, Ok, Err, OnOk, IfErr, length, take, drop, refl, sym, ap, ◌∙◌, subst, inl, inr, arith, append_assoc, length-append}
-use Rattle.std.proofs.lemmas.Bool.{cases_lt, eq-eqb}
-use Rattle.std.proofs.lemmas.List.{append-nil, take-append-le, take_all, take_at, take_rest, take-append-drop, length-drop, length-take-le}
-use Rattle.std.proofs.lemmas.List.Elements.{All-append, All-from_get_or}
-use Rattle.memchr.specs.Find.{IsFirstByte, is_byte}
+use Rattle.std.proofs.Common.{◌≡◌, ℕ, ◌+◌, ◌-◌, ◌≤◌, ◌<◌, List, [], ◌∷◌, ◌++◌, Result, Ok, Err, OnOk, IfErr, length, take, drop, sym, ap, ◌∙◌, subst, inl, inr, arith, append_assoc, length-append}
+use Rattle.std.proofs.lemmas.Bool.{cases_lt}
+use Rattle.std.proofs.lemmas.List.{append-nil, take-append-le, take_all, take-append-drop}
 use Rattle.std.proofs.Math.Seq.{take-append-add}
 use Rattle.peg_text.specs.Records.{Cut, cut_of, unended, records_of, HasNoLf}
-use Rattle.peg_text.proofs.RecordLemmas.{cut_of-append, cut_of-line, cut_of-unbroken, cut_of-rest}
-use Rattle.peg_text.proofs.CursorLemmas.{unended-some, record_found, IsSearched-none}
+use Rattle.peg_text.proofs.RecordLemmas.{cut_of-append}
+use Rattle.peg_text.proofs.CursorLemmas.{unended-some}
 use Rattle.gimv_base.specs.Parts.{written}
 use Rattle.gimv_base.specs.Rules.{Rule, role_out}
 use Rattle.gimv_base.specs.Standings.{Standing, fresh}
@@ -16,32 +14,14 @@ use Rattle.child.specs.declared.status.ChildStatus.TheVariants as Status
 use Rattle.child.specs.Judging.{most_bytes, judged_records, IsBadAmong, AreGood}
 use Rattle.child.specs.Handing.{HasHanded, Hands, HandsNoMore, IsRefused, IsRefusedLast}
 use Rattle.child.specs.Feeding.{Fed, HasFed, Feeds, IsRefusal, RefusesBytes, Finishes, RefusesToFinish}
+use Rattle.child.proofs.CutLemmas.{Found, cut_of-record, cut_of-held, whole_piece}
 use Rattle.child.proofs.HandingLemmas.{HasHanded-none, IsBadAmong-more}
 
 abbrev Records : Type 0
 Records = List (List ℕ)
 
-both_unbroken : (held bs : List ℕ) → HasNoLf held → HasNoLf bs → HasNoLf (held ++ bs)
-both_unbroken held bs first second = All-append (λ b. b ≡ 10 → ⊥) held bs first second
-
--- bytes, further ones without an LF, and an LF
-pub cut_of-record : (so_far text : List ℕ) → HasNoLf text
-    → cut_of (so_far ++ (text ++ (10 ∷ []))) ≡ record { whole = (cut_of so_far).whole ++ (((cut_of so_far).rest ++ text) ∷ []); rest = [] }
-cut_of-record so_far text unbroken =
-    let cut = cut_of so_far in
-    cut_of-append so_far (text ++ (10 ∷ []))
-    ∙ ap (λ (bytes : List ℕ). record { whole = cut.whole ++ (cut_of bytes).whole; rest = (cut_of bytes).rest }) (sym (append_assoc cut.rest text (10 ∷ [])))
-    ∙ ap (λ (c : Cut). record { whole = cut.whole ++ c.whole; rest = c.rest }) (cut_of-line (cut.rest ++ text) [] (both_unbroken cut.rest text (cut_of-rest so_far) unbroken))
-
--- bytes and further ones without an LF
-pub cut_of-held : (so_far text : List ℕ) → HasNoLf text → cut_of (so_far ++ text) ≡ record { whole = (cut_of so_far).whole ++ []; rest = (cut_of so_far).rest ++ text }
-cut_of-held so_far text unbroken =
-    let cut = cut_of so_far in
-    cut_of-append so_far text
-    ∙ ap (λ (c : Cut). record { whole = cut.whole ++ c.whole; rest = c.rest }) (cut_of-unbroken (cut.rest ++ text) (both_unbroken cut.rest text (cut_of-rest so_far) unbroken))
-
 -- the records among the bytes that are judged stay where further bytes come
-judged_more : (bytes more : List ℕ) → (rs : Records) × (judged_records (bytes ++ more) ≡ judged_records bytes ++ rs)
+pub judged_more : (bytes more : List ℕ) → (rs : Records) × (judged_records (bytes ++ more) ≡ judged_records bytes ++ rs)
 judged_more bytes more =
     elim (cases_lt (length bytes) most_bytes) [
       | inl few ↦
@@ -237,37 +217,15 @@ refuses_last before mid old middle (Ok u) some hands refused = tt
 refuses_last before mid old middle (Err status) some hands refused = RefusesToFinish-after before some mid old middle status hands refused
 
 -- before the first byte
-pub HasFed-none : (rule : Rule) → HasFed rule [] (record { standing = fresh rule; held = []; line = 0; taken = 0 }) []
-HasFed-none rule = record { handed = HasHanded-none rule; held = refl; line = refl; taken = refl }
+pub HasFed-none : (rule : Rule) (fed : Fed) → fed.standing ≡ fresh rule → fed.held ≡ [] → fed.line ≡ 0 → fed.taken ≡ 0 → HasFed rule [] fed []
+HasFed-none rule fed standing held line taken = record {
+  handed = subst (λ (s : Standing). HasHanded rule [] s []) (sym standing) (HasHanded-none rule);
+  held = held;
+  line = line;
+  taken = taken;
+}
 
 -- a piece, record by record
-pub no_lf : (piece : List ℕ) → IsFirstByte (is_byte 10) piece None → HasNoLf piece
-no_lf piece none = All-from_get_or (λ b. b ≡ 10 → ⊥) piece 0 (λ k inside lf. none k (omega arith) inside (eq-eqb _ 10 lf))
-
--- the record that was found at a place, and what is then the front of the piece
-pub record Found (piece : List ℕ) (start len : ℕ) (text : List ℕ) : Type 0 where
-  pub front : take (start + (len + 1)) piece ≡ take start piece ++ (text ++ (10 ∷ []))
-  pub len_is : length text ≡ len
-  pub inside : start + len + 1 ≤ length piece
-
-pub found_at : (piece hay : List ℕ) (start len : ℕ) → start ≤ length piece → hay ≡ drop start piece → IsFirstByte (is_byte 10) hay (Some len) → Found piece start len (take (start + len - start) (drop start piece))
-found_at piece hay start len low is first =
-    let text : List ℕ = take (start + len - start) (drop start piece) in
-    let begins = record_found piece hay start start len (drop start piece) text (IsSearched-none piece start low) is refl refl first in
-    let rest : List ℕ = drop (start + len + 1) piece in
-    let high : len < length hay = first.0.high in
-    let fits : start + len < length piece = omega (arith, ap length is, length-drop start piece) in
-    let len_is : length text ≡ len = length-take-le (start + len - start) (drop start piece) (omega (arith, length-drop start piece)) ∙ omega arith in
-    let front : List ℕ = take start piece ++ (text ++ (10 ∷ [])) in
-    let front_len : length front ≡ start + (len + 1) = omega (arith, len_is, length-append (take start piece) (text ++ (10 ∷ [])), length-append text (10 ∷ []), length-take-le start piece low) in
-    let whole : piece ≡ front ++ rest =
-    sym (take-append-drop start piece) ∙ ap (λ (l : List ℕ). take start piece ++ l) (begins.whole ∙ sym (append_assoc text (10 ∷ []) rest)) ∙ sym (append_assoc (take start piece) (text ++ (10 ∷ [])) rest) in
-    record {
-      front = ap (take (start + (len + 1))) whole ∙ take_at front rest (start + (len + 1)) front_len;
-      len_is = len_is;
-      inside = omega arith;
-    }
-
 pub feeds_found : (a b c : Fed) (piece : List ℕ) (start len : ℕ) (text old mid new : List ℕ) → Found piece start len text → Feeds a b (take start piece) old mid → Feeds b c (text ++ (10 ∷ [])) mid new → Feeds a c (take (start + (len + 1)) piece) old new
 feeds_found a b c piece start len text old mid new found first second =
     subst (λ (bytes : List ℕ). Feeds a c bytes old new) (sym found.front) (Feeds-then a b c (take start piece) (text ++ (10 ∷ [])) old mid new first second)
@@ -276,9 +234,6 @@ pub refuses_found : (a b : Fed) (piece : List ℕ) (start len : ℕ) (text old m
 refuses_found a b piece start len text old mid status found first refuses =
     let front = subst (λ (bytes : List ℕ). RefusesBytes a bytes status) (sym found.front) (RefusesBytes-then a b (take start piece) (text ++ (10 ∷ [])) old mid status first refuses) in
     subst (λ (bytes : List ℕ). RefusesBytes a bytes status) (take-append-drop (start + (len + 1)) piece) (RefusesBytes-more a (take (start + (len + 1)) piece) (drop (start + (len + 1)) piece) status front)
-
-whole_piece : (piece : List ℕ) (start : ℕ) → take start piece ++ take (length piece - start) (drop start piece) ≡ piece
-whole_piece piece start = ap (λ (l : List ℕ). take start piece ++ l) (take_rest piece start) ∙ take-append-drop start piece
 
 pub feeds_rest : (a b c : Fed) (piece : List ℕ) (start : ℕ) (old new : List ℕ) (answer : Result (Unit {0}) ChildStatus) → Feeds a b (take start piece) old new
     → ((out : List ℕ) → OnOk answer (Feeds b c (take (length piece - start) (drop start piece)) out out)) → OnOk answer (Feeds a c piece old new)

@@ -14,6 +14,10 @@ use Rattle.child.specs.declared.status.ChildStatus.TheVariants as Status
 use Rattle.child.specs.Judging.{most_bytes, judged_records, AreTooMany}
 use Rattle.child.specs.Feeding.{Fed, HasFed, Feeds, IsRefusal, Finishes, IsLastRefusal}
 use Rattle.child.specs.Child.{WritesAll, IsDone, IsFirstBad, WritesPart, answer_to, piece_length, IsStreamed}
+use Rattle.child.specs.declared.front.Front.{Front}
+use Rattle.child.specs.declared.fronts.Fronts.{Fronts}
+use Rattle.child.specs.Shown.{AreFronts, IsFrontOf, ShowsBad, record_numbered}
+use Rattle.child.specs.Watching.{ShowsRefused, ShowsLast}
 use Rattle.child.proofs.FeedingLemmas.{IsRefusal-more}
 
 abbrev Records : Type 0
@@ -99,6 +103,17 @@ pub refused_large : (rule : Rule) (left left' : Option (List ℕ)) (bytes : List
 refused_large rule left left' bytes status given refused e =
     on_left left left' bytes (AreTooMany rule) given (λ rest. subst (λ (s : ChildStatus). IsRefusal rule (bytes ++ rest) s) e (IsRefusal-more rule bytes rest status refused))
 
+-- where a record was bad, this is its front
+pub shown_bad : (rule : Rule) (left left' : Option (List ℕ)) (before : Fed) (fronts : Fronts) (bytes outs piece : List ℕ) (front : Front) (status : ChildStatus) → HasFed rule bytes before outs → AreFronts bytes fronts → left ≡ onto (bytes ++ piece) left'
+    → ShowsRefused before fronts piece front status → ShowsBad status left front
+shown_bad rule left left' before fronts bytes outs piece front status h are given shows = λ line e.
+    on_left left left' (bytes ++ piece) (λ all. IsFrontOf (record_numbered line (records_of all)) front) given (λ rest. shows line e rule bytes outs rest h are)
+
+pub shown_last : (rule : Rule) (left left' : Option (List ℕ)) (before : Fed) (fronts : Fronts) (bytes outs : List ℕ) (front : Front) (status : ChildStatus) → HasFed rule bytes before outs → AreFronts bytes fronts → left ≡ onto bytes left' → AtEnd left'
+    → ShowsLast before fronts front status → ShowsBad status left front
+shown_last rule left left' before fronts bytes outs front status h are given end shows = λ line e.
+    at_end left left' bytes (λ all. IsFrontOf (record_numbered line (records_of all)) front) given end (shows line e rule bytes outs h are)
+
 -- a refusal is neither of these
 pub never_ok : (rule : Rule) (bytes : List ℕ) (status : ChildStatus) → IsRefusal rule bytes status → status ≡ Status.Ok → ⊥
 never_ok rule bytes status refused e = subst (λ (s : ChildStatus). IsRefusal rule bytes s) e refused
@@ -137,7 +152,7 @@ is_done rule left left' before now bytes outs given end few out said = record {
 }
 
 -- a piece more
-pub HasRun-more : (rule : Rule) (left mid left' before now now' : Option (List ℕ)) (a b : Fed) (piece out : List ℕ) → HasRun rule left mid before now a → mid ≡ onto piece left' → Feeds a b piece [] out → now' ≡ added now out → HasRun rule left left' before now' b
+abbrev pub HasRun-more : (rule : Rule) (left mid left' before now now' : Option (List ℕ)) (a b : Fed) (piece out : List ℕ) → HasRun rule left mid before now a → mid ≡ onto piece left' → Feeds a b piece [] out → now' ≡ added now out → HasRun rule left left' before now' b
 HasRun-more rule left mid left' before now now' a b piece out run given feeds said = record {
   bytes = run.bytes ++ piece;
   given = run.given ∙ ap (onto run.bytes) given ∙ onto-onto run.bytes piece left';
@@ -146,7 +161,7 @@ HasRun-more rule left mid left' before now now' a b piece out run given feeds sa
   said = said ∙ ap (added now) feeds.grown ∙ ap (λ (n : Option (List ℕ)). added n feeds.added) run.said ∙ added-added before run.outs feeds.added;
 }
 
-pub HasRun-none : (rule : Rule) (left before : Option (List ℕ)) (fed : Fed) → HasFed rule [] fed [] → HasRun rule left left before before fed
+abbrev pub HasRun-none : (rule : Rule) (left before : Option (List ℕ)) (fed : Fed) → HasFed rule [] fed [] → HasRun rule left left before before fed
 HasRun-none rule left before fed state = record {
   bytes = [];
   given = sym (onto-nil left);

@@ -4,5 +4,8 @@ pub mod Edges
 pub mod Words
 pub mod Judging
 pub mod Handing
+pub mod Shown
+pub mod Quoting
 pub mod Feeding
+pub mod Watching
 pub mod Child

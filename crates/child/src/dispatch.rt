@@ -3,9 +3,11 @@ ghost use Rattle.std.specs.String.{string_bytes};
 ghost use Rattle.dir_disk.specs.Causes.{Rose};
 ghost use Rattle.child.specs.Child.{IsDone, IsFirstBad, IsStreamed, Runs, WritesPart, streams};
 ghost use Rattle.child.specs.Judging.{AreTooMany};
+ghost use Rattle.child.specs.Shown.{ShowsBad};
 ghost use Rattle.child.specs.Words.{HasNodes, rule_of, rule_of_kind, rule_of_block_role, rule_of_node_role, rule_over_blocks, rule_over_nodes};
 
 use crate::edges::EdgesRole;
+use crate::front::Front;
 use crate::kinds::{Algorithm, BlockRole, Kind, NodeRole, read_kind};
 use crate::run::run_role;
 use crate::status::ChildStatus;
@@ -56,47 +58,50 @@ pub fn run_child<I: Source, O: Sink>(
     ensures steady_sink { result ≢ ChildStatus.Fault → O.faults sink.new ≡ O.faults sink.old }
 {
     match read_kind(words) {
-        Some(kind) => run_kind(alloc, kind, source, sink),
+        Some(kind) => run_kind(alloc, kind, source, sink, &mut Front::new(alloc)),
         None => ChildStatus::Usage,
     }
 }
 
 /// Runs a role.
-fn run_kind<I: Source, O: Sink>(
+pub fn run_kind<I: Source, O: Sink>(
     alloc: Global,
     kind: Kind,
     source: &mut I,
     sink: &mut O,
+    shown: &mut Front,
 ) -> ChildStatus
     requires { HasNodes kind }
-    ensures { Runs (rule_of_kind kind) result (streams (I.left source.old) (O.written sink.old) (I.faults source.old) (O.faults sink.old)) (streams (I.left source.new) (O.written sink.new) (I.faults source.new) (O.faults sink.new)) }
+    ensures runs { Runs (rule_of_kind kind) result (streams (I.left source.old) (O.written sink.old) (I.faults source.old) (O.faults sink.old)) (streams (I.left source.new) (O.written sink.new) (I.faults source.new) (O.faults sink.new)) }
+    ensures shown { ShowsBad result (I.left source.old) shown.new }
 {
     match kind {
-        Kind::Id => run_role(alloc, IdRole::new(), source, sink),
-        Kind::Entries { both } => run_role(alloc, EntriesRole::new(both), source, sink),
-        Kind::Edges { nodes } => run_role(alloc, EdgesRole::new(alloc, nodes), source, sink),
-        Kind::Degrees => run_role(alloc, DegreesRole::new(alloc), source, sink),
-        Kind::Place => run_role(alloc, PlaceRole::new(alloc), source, sink),
+        Kind::Id => run_role(alloc, IdRole::new(), source, sink, shown),
+        Kind::Entries { both } => run_role(alloc, EntriesRole::new(both), source, sink, shown),
+        Kind::Edges { nodes } => run_role(alloc, EdgesRole::new(alloc, nodes), source, sink, shown),
+        Kind::Degrees => run_role(alloc, DegreesRole::new(alloc), source, sink, shown),
+        Kind::Place => run_role(alloc, PlaceRole::new(alloc), source, sink, shown),
         Kind::Nodes {
             role,
             algorithm,
             nodes,
-        } => run_over_nodes(alloc, role, algorithm, nodes, source, sink),
-        Kind::Group { block } => run_role(alloc, GroupRole::new(block), source, sink),
-        Kind::Cut { block } => run_role(alloc, CutRole::new(block), source, sink),
-        Kind::Blocks => run_role(alloc, BlocksRole::new(alloc), source, sink),
+        } => run_over_nodes(alloc, role, algorithm, nodes, source, sink, shown),
+        Kind::Group { block } => run_role(alloc, GroupRole::new(block), source, sink, shown),
+        Kind::Cut { block } => run_role(alloc, CutRole::new(block), source, sink, shown),
+        Kind::Blocks => run_role(alloc, BlocksRole::new(alloc), source, sink, shown),
         Kind::InBlocks {
             role,
             algorithm,
             nodes,
             block,
-        } => run_over_blocks(alloc, role, algorithm, nodes, block, source, sink),
+        } => run_over_blocks(alloc, role, algorithm, nodes, block, source, sink, shown),
         Kind::Diagonal { nodes, block } => {
             run_role(
                 alloc,
                 Diag1::new(alloc, Hcc::new(), nodes, block),
                 source,
                 sink,
+                shown,
             )
         }
     }
@@ -110,17 +115,27 @@ fn run_over_nodes<I: Source, O: Sink>(
     nodes: u32,
     source: &mut I,
     sink: &mut O,
+    shown: &mut Front,
 ) -> ChildStatus
     requires { 1 ≤ nodes }
-    ensures { Runs (rule_over_nodes role algorithm nodes) result (streams (I.left source.old) (O.written sink.old) (I.faults source.old) (O.faults sink.old)) (streams (I.left source.new) (O.written sink.new) (I.faults source.new) (O.faults sink.new)) }
+    ensures runs { Runs (rule_over_nodes role algorithm nodes) result (streams (I.left source.old) (O.written sink.old) (I.faults source.old) (O.faults sink.old)) (streams (I.left source.new) (O.written sink.new) (I.faults source.new) (O.faults sink.new)) }
+    ensures shown { ShowsBad result (I.left source.old) shown.new }
 {
     match algorithm {
-        Algorithm::Hcc => run_node_role(alloc, role, Hcc::new(), nodes, source, sink),
+        Algorithm::Hcc => run_node_role(alloc, role, Hcc::new(), nodes, source, sink, shown),
         Algorithm::PageRank => {
-            run_node_role(alloc, role, PageRank::new(nodes), nodes, source, sink)
+            run_node_role(
+                alloc,
+                role,
+                PageRank::new(nodes),
+                nodes,
+                source,
+                sink,
+                shown,
+            )
         }
         Algorithm::Hadi { seed } => {
-            run_node_role(alloc, role, Hadi::new(seed), nodes, source, sink)
+            run_node_role(alloc, role, Hadi::new(seed), nodes, source, sink, shown)
         }
     }
 }
@@ -133,14 +148,34 @@ fn run_node_role<G: Gimv + Drop, I: Source, O: Sink>(
     nodes: u32,
     source: &mut I,
     sink: &mut O,
+    shown: &mut Front,
 ) -> ChildStatus
-    ensures { Runs (rule_of_node_role role (G.algebra algorithm) nodes) result (streams (I.left source.old) (O.written sink.old) (I.faults source.old) (O.faults sink.old)) (streams (I.left source.new) (O.written sink.new) (I.faults source.new) (O.faults sink.new)) }
+    ensures runs { Runs (rule_of_node_role role (G.algebra algorithm) nodes) result (streams (I.left source.old) (O.written sink.old) (I.faults source.old) (O.faults sink.old)) (streams (I.left source.new) (O.written sink.new) (I.faults source.new) (O.faults sink.new)) }
+    ensures shown { ShowsBad result (I.left source.old) shown.new }
 {
     match role {
-        NodeRole::First => run_role(alloc, FirstRole::new(algorithm, nodes), source, sink),
-        NodeRole::Stage1 => run_role(alloc, Stage1::new(alloc, algorithm, nodes), source, sink),
-        NodeRole::Stage2 => run_role(alloc, Stage2::new(alloc, algorithm, nodes), source, sink),
-        NodeRole::Number => run_role(alloc, NumberRole::new(algorithm, nodes), source, sink),
+        NodeRole::First => run_role(alloc, FirstRole::new(algorithm, nodes), source, sink, shown),
+        NodeRole::Stage1 => run_role(
+            alloc,
+            Stage1::new(alloc, algorithm, nodes),
+            source,
+            sink,
+            shown,
+        ),
+        NodeRole::Stage2 => run_role(
+            alloc,
+            Stage2::new(alloc, algorithm, nodes),
+            source,
+            sink,
+            shown,
+        ),
+        NodeRole::Number => run_role(
+            alloc,
+            NumberRole::new(algorithm, nodes),
+            source,
+            sink,
+            shown,
+        ),
     }
 }
 
@@ -153,13 +188,24 @@ fn run_over_blocks<I: Source, O: Sink>(
     block: u32,
     source: &mut I,
     sink: &mut O,
+    shown: &mut Front,
 ) -> ChildStatus
     requires nodes { 1 ≤ nodes }
     requires block { 1 ≤ block }
-    ensures { Runs (rule_over_blocks role algorithm nodes block) result (streams (I.left source.old) (O.written sink.old) (I.faults source.old) (O.faults sink.old)) (streams (I.left source.new) (O.written sink.new) (I.faults source.new) (O.faults sink.new)) }
+    ensures runs { Runs (rule_over_blocks role algorithm nodes block) result (streams (I.left source.old) (O.written sink.old) (I.faults source.old) (O.faults sink.old)) (streams (I.left source.new) (O.written sink.new) (I.faults source.new) (O.faults sink.new)) }
+    ensures shown { ShowsBad result (I.left source.old) shown.new }
 {
     match algorithm {
-        Algorithm::Hcc => run_block_role(alloc, role, Hcc::new(), nodes, block, source, sink),
+        Algorithm::Hcc => run_block_role(
+            alloc,
+            role,
+            Hcc::new(),
+            nodes,
+            block,
+            source,
+            sink,
+            shown,
+        ),
         Algorithm::PageRank => {
             run_block_role(
                 alloc,
@@ -169,10 +215,20 @@ fn run_over_blocks<I: Source, O: Sink>(
                 block,
                 source,
                 sink,
+                shown,
             )
         }
         Algorithm::Hadi { seed } => {
-            run_block_role(alloc, role, Hadi::new(seed), nodes, block, source, sink)
+            run_block_role(
+                alloc,
+                role,
+                Hadi::new(seed),
+                nodes,
+                block,
+                source,
+                sink,
+                shown,
+            )
         }
     }
 }
@@ -186,9 +242,11 @@ fn run_block_role<G: Gimv + Drop, I: Source, O: Sink>(
     block: u32,
     source: &mut I,
     sink: &mut O,
+    shown: &mut Front,
 ) -> ChildStatus
     requires { 1 ≤ block }
-    ensures { Runs (rule_of_block_role role (G.algebra algorithm) nodes block) result (streams (I.left source.old) (O.written sink.old) (I.faults source.old) (O.faults sink.old)) (streams (I.left source.new) (O.written sink.new) (I.faults source.new) (O.faults sink.new)) }
+    ensures runs { Runs (rule_of_block_role role (G.algebra algorithm) nodes block) result (streams (I.left source.old) (O.written sink.old) (I.faults source.old) (O.faults sink.old)) (streams (I.left source.new) (O.written sink.new) (I.faults source.new) (O.faults sink.new)) }
+    ensures shown { ShowsBad result (I.left source.old) shown.new }
 {
     match role {
         BlockRole::FirstB => {
@@ -197,6 +255,7 @@ fn run_block_role<G: Gimv + Drop, I: Source, O: Sink>(
                 FirstBlock::new(alloc, algorithm, nodes, block),
                 source,
                 sink,
+                shown,
             )
         }
         BlockRole::Block1 => {
@@ -205,6 +264,7 @@ fn run_block_role<G: Gimv + Drop, I: Source, O: Sink>(
                 Block1::new(alloc, algorithm, nodes, block),
                 source,
                 sink,
+                shown,
             )
         }
         BlockRole::Block2 => {
@@ -213,13 +273,26 @@ fn run_block_role<G: Gimv + Drop, I: Source, O: Sink>(
                 Block2::new(alloc, algorithm, nodes, block),
                 source,
                 sink,
+                shown,
             )
         }
         BlockRole::Unblock => {
-            run_role(alloc, Unblock::new(algorithm, nodes, block), source, sink)
+            run_role(
+                alloc,
+                Unblock::new(algorithm, nodes, block),
+                source,
+                sink,
+                shown,
+            )
         }
         BlockRole::Unplace => {
-            run_role(alloc, Unplace::new(algorithm, nodes, block), source, sink)
+            run_role(
+                alloc,
+                Unplace::new(algorithm, nodes, block),
+                source,
+                sink,
+                shown,
+            )
         }
     }
 }

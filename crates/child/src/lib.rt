@@ -4,10 +4,18 @@
 mod dispatch;
 mod edges;
 mod feeding;
+mod front;
+mod fronts;
 mod kinds;
+mod quoting;
 mod roles;
 mod run;
+mod showing;
 mod status;
+mod watched;
 
 pub use dispatch::run_child;
+pub use front::Front;
+pub use quoting::append_quoted;
+pub use showing::run_showing;
 pub use status::ChildStatus;

@@ -5,7 +5,7 @@
 #[cfg(test)]
 mod tests;
 
-use child::{ChildStatus, run_child};
+use child::{ChildStatus, Front, append_quoted, run_showing};
 use host_real::{HeldStreams, StdSink, StdSource, program_words};
 use peg_text::NoMemory;
 use std::alloc::Global;
@@ -41,7 +41,7 @@ ALG is hcc, pagerank or hadi=SEED, N is the number of nodes, 1 to 1073741824, an
 block may have fewer.
 A group is a run of lines with the same text before the first TAB.
 The status is 0, or 2 for other words, 65 for a bad line, 66 for more than 2^50 bytes, 70 for want of memory, and 74
-where a stream failed.
+where a stream failed. A bad line is told on standard error by its number from 1, with its first 80 bytes in quotes.
 
 pegchild --help and pegchild --version print this and the version.
 ";
@@ -57,17 +57,25 @@ fn printed_instead(words: &[String]) -> Option<&'static str> {
     }
 }
 
-/// The line that tells of a fault, with its LF; nothing where there was none.
-fn fault_line(alloc: Global, status: ChildStatus) -> Result<Vec<u8>, NoMemory> {
+/// The lines that tell of a bad record: its number, and its front in quotes.
+fn bad_record(alloc: Global, line: u64, shown: &Front) -> Result<Vec<u8>, NoMemory> {
+    let mut told = format!(in alloc;
+        "pegchild: bad line {line}\npegchild: the line is "
+    )?.into_bytes();
+    append_quoted(&mut told, shown)?;
+    told.push(b'\n')?;
+    Ok(told)
+}
+
+/// What tells of a fault, each line with its LF; nothing where there was none.
+fn fault_lines(alloc: Global, status: ChildStatus, shown: &Front) -> Result<Vec<u8>, NoMemory> {
     match status {
         ChildStatus::Ok => Ok(Vec::new(alloc)),
         ChildStatus::Usage => Ok(Vec::from_slice(
             alloc,
             b"pegchild: no role has these words (pegchild --help lists them)\n",
         )?),
-        ChildStatus::BadLine { line } => {
-            Ok(format!(in alloc; "pegchild: bad line {line}\n")?.into_bytes())
-        }
+        ChildStatus::BadLine { line } => bad_record(alloc, line, shown),
         ChildStatus::TooLarge => Ok(Vec::from_slice(alloc, b"pegchild: input too large\n")?),
         ChildStatus::NoMemory => Ok(Vec::from_slice(alloc, b"pegchild: no memory\n")?),
         ChildStatus::Fault => Ok(Vec::from_slice(alloc, b"pegchild: a stream failed\n")?),
@@ -75,9 +83,9 @@ fn fault_line(alloc: Global, status: ChildStatus) -> Result<Vec<u8>, NoMemory> {
 }
 
 /// Says what went wrong on standard error, and gives the exit code.
-fn finish(rt: &HostRuntime, alloc: Global, status: ChildStatus) -> ExitCode {
-    let told = match fault_line(alloc, status) {
-        Ok(line) => rt.stderr().write_all(&line),
+fn finish(rt: &HostRuntime, alloc: Global, status: ChildStatus, shown: &Front) -> ExitCode {
+    let told = match fault_lines(alloc, status, shown) {
+        Ok(lines) => rt.stderr().write_all(&lines),
         Err(NoMemory) => rt.stderr().write_all(b"pegchild: no memory\n"),
     };
     // The exit code stands, whether or not someone listens.
@@ -88,19 +96,20 @@ fn finish(rt: &HostRuntime, alloc: Global, status: ChildStatus) -> ExitCode {
 fn main(rt: HostRuntime) -> ExitCode {
     let alloc = rt.alloc();
     let _held = HeldStreams::new(&rt);
+    let mut shown = Front::new(alloc);
     let words = match program_words(&rt, alloc) {
         Ok(words) if words.not_texts.is_empty() => words.texts,
-        Ok(_) => return finish(&rt, alloc, ChildStatus::Usage),
-        Err(NoMemory) => return finish(&rt, alloc, ChildStatus::NoMemory),
+        Ok(_) => return finish(&rt, alloc, ChildStatus::Usage, &shown),
+        Err(NoMemory) => return finish(&rt, alloc, ChildStatus::NoMemory, &shown),
     };
     if let Some(text) = printed_instead(&words) {
         return match rt.stdout().write_all(text.as_bytes()) {
             Ok(()) => ExitCode::SUCCESS,
-            Err(_) => finish(&rt, alloc, ChildStatus::Fault),
+            Err(_) => finish(&rt, alloc, ChildStatus::Fault, &shown),
         };
     }
     let mut source = StdSource::new(&rt);
     let mut sink = StdSink::new(&rt);
-    let status = run_child(alloc, &words, &mut source, &mut sink);
-    finish(&rt, alloc, status)
+    let status = run_showing(alloc, &words, &mut source, &mut sink, &mut shown);
+    finish(&rt, alloc, status, &shown)
 }

@@ -1,9 +1,9 @@
-//! Of a child: what no row can say, which is what comes of streams that fail. Of a program's words: that a long one hides none.
+//! Of a child: what no row can say, which is what comes of streams that fail, and what is shown of a bad record. Of a program's words: that a long one hides none.
 //! They stand here, and not in `child` and `host_real`, since a crate with tests is proved twice, and this one is small.
 
 ghost use Rattle.std.specs.Prelude.{◌≤◌, length};
 
-use child::{ChildStatus, run_child};
+use child::{ChildStatus, Front, append_quoted, run_child, run_showing};
 use dir_disk::{MemSink, MemSource, Source};
 use host_real::program_words;
 use std::alloc::Global;
@@ -121,6 +121,96 @@ fn statuses_have_codes(rt: HostRuntime) {
     for (status, code) in cases {
         assert_eq!(rt; status.code(), code);
     }
+}
+
+/// How a child ended over a text in pieces of so many bytes, and what is shown of a bad record.
+fn show(alloc: Global, line: &str, bytes: &[u8], piece: u32) -> Result<(ChildStatus, Front), Fail> {
+    let words = words_of(alloc, line)?;
+    let mut source = MemSource::new(Vec::from_slice(alloc, bytes)?, piece, Vec::new(alloc));
+    let mut sink = MemSink::new(alloc, Vec::new(alloc));
+    let mut front = Front::new(alloc);
+    let status = run_showing(alloc, &words, &mut source, &mut sink, &mut front);
+    Ok((status, front))
+}
+
+/// Whether the bad record has this number and is shown so, in pieces of any size.
+fn is_shown(
+    alloc: Global,
+    words: &str,
+    bytes: &[u8],
+    line: u64,
+    wanted: &[u8],
+) -> Result<bool, Fail> {
+    for piece in [1, 2, 3, 7, 65_536] {
+        let (status, front) = show(alloc, words, bytes, piece)?;
+        let mut quoted = Vec::new(alloc);
+        append_quoted(&mut quoted, &front)?;
+        if status != (ChildStatus::BadLine { line }) || quoted.as_slice() != wanted {
+            return Ok(false);
+        }
+    }
+    Ok(true)
+}
+
+#[test]
+fn a_bad_record_is_shown(rt: HostRuntime) -> Result<(), Fail> {
+    let cases: [(&str, &[u8], u64, &[u8]); 7] = [
+        // The record that came is the bad one, the last one without an LF too, and an empty one.
+        (
+            "stage1 hcc 6",
+            b"0\tV 1 0\n1\tW 0 1\n2\tV 1 2\n",
+            2,
+            b"\"1\\tW 0 1\"",
+        ),
+        ("stage1 hcc 6", b"0\tV 1 0\n1\tW 0 1", 2, b"\"1\\tW 0 1\""),
+        ("number hcc 6", b"0\tV 1 0\n\n0\tV 1 0\n", 2, b"\"\""),
+        // The one before it is: its group ended too early.
+        (
+            "place",
+            b"0\tP 3\n0\tQ 5\n1\tP 4\n2\tP 5\n",
+            3,
+            b"\"1\\tP 4\"",
+        ),
+        ("place", b"0\tP 3\n0\tQ 5\n1\tP 4\n", 3, b"\"1\\tP 4\""),
+        ("place", b"0\tP 3\n0\tQ 5\n1\tP 4", 3, b"\"1\\tP 4\""),
+        // Bytes that aren't printed as they are.
+        (
+            "number hcc 6",
+            b"\"\\\r~\x7f\xff",
+            1,
+            b"\"\\\"\\\\\\x0d~\\x7f\\xff\"",
+        ),
+    ];
+    for (words, bytes, line, wanted) in cases {
+        assert!(rt;
+            is_shown(rt.alloc(), words, bytes, line, wanted)?,
+            "{words}, line {line}"
+        );
+    }
+    Ok(())
+}
+
+/// So many bytes `a`, between a front and a back.
+fn around(alloc: Global, front: &[u8], count: usize, back: &[u8]) -> Result<Vec<u8>, Fail> {
+    let mut text = Vec::from_slice(alloc, front)?;
+    for _ in 0..count {
+        text.push(b'a')?;
+    }
+    text.extend_from_slice(back)?;
+    Ok(text)
+}
+
+#[test]
+fn eighty_bytes_of_a_bad_record_are_shown(rt: HostRuntime) -> Result<(), Fail> {
+    for (count, shown, back) in [(80, 80, b"\"".as_slice()), (81, 80, b"\" ..".as_slice())] {
+        let bytes = around(rt.alloc(), b"0\tV 1 0\n", count, b"\n")?;
+        let wanted = around(rt.alloc(), b"\"", shown, back)?;
+        assert!(rt;
+            is_shown(rt.alloc(), "number hcc 6", &bytes, 2, &wanted)?,
+            "{count} bytes"
+        );
+    }
+    Ok(())
 }
 
 /// A program's environment with three words, the second of which has so many bytes.

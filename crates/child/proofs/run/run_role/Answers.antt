@@ -1,8 +1,8 @@
 -- What a run of the pieces is known to do, as one.
 use Rattle.child.proofs.run.run_role.Goals as goal
 
-pub returns : goal.returns
-returns g c =
+pub returns-clause-runs : goal.returns-clause-runs
+returns-clause-runs g c =
     let run = c.run_pieces.ensures in record {
       done = run.done;
       bad = run.bad;

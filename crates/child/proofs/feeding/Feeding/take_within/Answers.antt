@@ -1,6 +1,7 @@
 use Rattle.std.proofs.Common.{arith}
 use Rattle.std.proofs.lemmas.List.{take_rest}
-use Rattle.child.proofs.FeedingLemmas.{no_lf, found_at, feeds_found, refuses_found, feeds_rest, refuses_rest}
+use Rattle.child.proofs.CutLemmas.{no_lf, found_at}
+use Rattle.child.proofs.FeedingLemmas.{feeds_found, refuses_found, feeds_rest, refuses_rest}
 use Rattle.child.proofs.feeding.Feeding.take_within.Goals as goal
 
 pub returns-in-Err-clause-err : goal.returns-in-Err-clause-err
