@@ -17,7 +17,6 @@ use Rattle.dir_disk.specs.Children.{Given, Seen}
 use Rattle.dir_disk.specs.declared.site.LogEntry.{LogEntry}
 use Rattle.dir_disk.specs.declared.site.LogEntry.TheVariants.{Started, StartFailed, Ended}
 use Rattle.task_core.specs.Board.{MayStart, is_success}
-use Rattle.conf.specs.declared.commands.Form.{Form}
 use Rattle.conf.specs.declared.reading.Conf.{Conf as Settings}
 use Rattle.job.specs.declared.fault.JobFault.{JobFault}
 use Rattle.job.specs.declared.fault.JobFault.TheVariants as Job
@@ -26,13 +25,12 @@ use Rattle.job.specs.declared.spec.JobSpec.{JobSpec}
 use Rattle.job.specs.Failing.{IsEntryOf, failed_of, gained, is_failed_of, is_of, tried}
 use Rattle.job.specs.Logged.{HasFewFailures, IsCutShort, JobLog, TellsOfJob}
 use Rattle.job.specs.Output.{Plan}
-use Rattle.job.specs.Whole.{plan_of}
 use Rattle.job.specs.Work.{Work, task_id, work_of}
-use Rattle.job.specs.Stretches.{AllRun, AnyRun, ArePartsOf, FinishesJobs, GainsJobs, Part, parts_of}
+use Rattle.job.specs.Stretches.{AllRun, AnyRun, ArePartsOf, Part}
 use Rattle.job.proofs.Listing.{each_append, each_map}
 use Rattle.job.proofs.Logs.{gained_is}
 use Rattle.mining.specs.declared.place.Place.{Place}
-use Rattle.mining.specs.Places.{folder_of, IsInTable, name_of, rank_of}
+use Rattle.mining.specs.Places.{folder_of, IsInTable, rank_of}
 use Rattle.mining.specs.declared.stop.Stop.{Stop}
 use Rattle.mining.specs.declared.stop.Stop.TheVariants.{TaskFailed, BadStore, BadEdge, BigNode, TooLarge, OtherJob, OtherEdges, Disk, Read, Say, NoMemory}
 use Rattle.committer.specs.declared.fault.CommitFault.{CommitFault}

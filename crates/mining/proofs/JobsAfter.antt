@@ -1,6 +1,6 @@
 -- The jobs of a run are those of its calls, and none of an iteration that was there.
-use Rattle.std.proofs.Common.{◌≡◌, ℕ, ◌+◌, ◌*◌, ◌<◌, ◌≤◌, List, [], ◌∷◌, ◌++◌, None, Some, refl, arith}
-use Rattle.std.specs.Prelude.{◌^◌, Option, Result, OnOk}
+use Rattle.std.proofs.Common.{◌≡◌, ℕ, ◌+◌, ◌*◌, ◌<◌, ◌≤◌, List, [], ◌∷◌, ◌++◌, None, Some, arith}
+use Rattle.std.specs.Prelude.{Option}
 use Rattle.std.specs.List.{AllByRecursion}
 use Rattle.dir_disk.specs.Moments.{Told}
 use Rattle.dir_disk.specs.Children.{Given, Seen}
@@ -14,7 +14,7 @@ use Rattle.job.proofs.Listing.{each_append}
 use Rattle.mining.specs.declared.place.Place.{Place}
 use Rattle.mining.specs.declared.place.Place.TheVariants.{Conf, Edges, Nodes, Placed, Matrix, Blocks, Messages, Vector, Joined, Results}
 use Rattle.mining.specs.Places.{rank_of}
-use Rattle.mining.specs.Jobs.{AreJobsOf, FinishesPast, FinishesWithin, GainsPast, GainsWithin, IsJobPast, IsOfForm, IsPast, Job, JobsPast, JobsWithin, Rise, rank_after, rank_behind, rank_from}
+use Rattle.mining.specs.Jobs.{FinishesPast, FinishesWithin, GainsPast, GainsWithin, IsJobPast, IsOfForm, IsPast, Job, JobsPast, JobsWithin, Rise, rank_after, rank_behind, rank_from}
 use Rattle.mining.proofs.JobsAdded.{are_append, finish_later, finishes_append, gains_append, gains_of, nothing, rank_messages, rank_vector, rise_append, rise_from, rise_to}
 
 pub rise_less : (low : ℕ) (jobs : List Job) (high : ℕ) → Rise low jobs high → low ≤ high

@@ -1,6 +1,6 @@
 -- A place that a refusal names isn't as it was made.
-use Rattle.std.proofs.Common.{◌≡◌, ◌≢◌, ℕ, zero, suc, ◌+◌, ◌-◌, ◌^◌, ◌<◌, ◌≤◌, Bool, true, false, if◌then◌else◌, ◌⊎◌, inl, inr, ⊎_elim, List, [], ◌∷◌, length, get_or, Option, None, Some, refl, sym, ◌∙◌, ap, subst, arith}
-use Rattle.std.specs.Prelude.{⊤, Result, Ok, Err, IfErr, IsErrAnd, is_some}
+use Rattle.std.proofs.Common.{◌≡◌, ◌≢◌, ℕ, ◌-◌, ◌^◌, ◌<◌, ◌≤◌, Bool, false, inl, inr, ⊎_elim, List, [], ◌∷◌, length, get_or, Option, None, Some, refl, sym, ◌∙◌, ap, subst, arith}
+use Rattle.std.specs.Prelude.{Result, Ok, Err, IfErr, IsErrAnd, is_some}
 use Rattle.std.specs.List.{All, AllByRecursion, flat_map, range_with_len}
 use Rattle.std.proofs.lemmas.Bool.{false≢true}
 use Rattle.std.proofs.lemmas.List.FromFn.{get_or-range_with_len, length-range_with_len}
@@ -26,7 +26,7 @@ use Rattle.committer.specs.declared.fault.CommitFault.TheVariants as Commit
 use Rattle.job.specs.declared.fault.JobFault.{JobFault}
 use Rattle.job.specs.declared.fault.JobFault.TheVariants as Job
 use Rattle.mining.specs.declared.place.Place.{Place}
-use Rattle.mining.specs.declared.place.Place.TheVariants.{Conf, Edges, Nodes, Placed, Matrix, Blocks, Messages, Vector, Joined, Results}
+use Rattle.mining.specs.declared.place.Place.TheVariants.{Conf, Messages, Vector, Results}
 use Rattle.mining.specs.Places.{folder_of, IsInTable, is_messages, is_sealed}
 use Rattle.mining.specs.Table.{inputs_of, matrix_for, numbers_for, part_count, part_paths, paths_read}
 use Rattle.mining.specs.Between.{IsSure}

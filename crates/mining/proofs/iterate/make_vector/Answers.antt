@@ -4,7 +4,7 @@ use Rattle.mining.proofs.JobsAdded.{gain_within, behind_gain, behind_finish, if_
 use Rattle.mining.specs.Jobs.{FinishesWithin, rank_from, rank_after}
 use Rattle.mining.specs.Places.{rank_of}
 use Rattle.mining.specs.declared.place.Place.TheVariants.{Messages, Vector}
-use Rattle.std.proofs.Common.{refl, arith, ◌+◌, ◌≡◌, ◌*◌}
+use Rattle.std.proofs.Common.{refl, arith, ◌+◌}
 use Rattle.dir_disk.specs.State.{IsSound}
 use Rattle.dir_disk.specs.Moments.{Told, EachImage, Through, files}
 use Rattle.dir_disk.proofs.Through.{then_goes}

@@ -1,7 +1,7 @@
 use Rattle.mining.proofs.Failures.{answer_err, stays_answer}
 use Rattle.job.specs.Failing.{gained}
 use Rattle.mining.proofs.JobsAdded.{gain_stays, finish_stays, done_so, steps_on}
-use Rattle.mining.specs.Jobs.{FinishesWithin, rank_from, rank_after, rank_of_end, rank_behind}
+use Rattle.mining.specs.Jobs.{FinishesWithin, rank_from, rank_after}
 use Rattle.std.proofs.Common.{◌≡◌, ℕ, Some, sym, ◌∙◌}
 use Rattle.dir_disk.specs.State.{IsSound}
 use Rattle.dir_disk.specs.Moments.{Told, EachImage, Through, files}

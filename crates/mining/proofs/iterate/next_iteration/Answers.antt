@@ -1,8 +1,8 @@
 use Rattle.mining.proofs.Failures.{answer_err, stays_stop, stays_done}
 use Rattle.job.specs.Failing.{gained}
-use Rattle.mining.proofs.JobsAdded.{gain_stays, finish_stays, done_so, steps_on}
-use Rattle.mining.specs.Jobs.{FinishesWithin, rank_from, rank_after, rank_of_end, rank_behind}
-use Rattle.std.proofs.Common.{refl, ◌≡◌, ℕ}
+use Rattle.mining.proofs.JobsAdded.{gain_stays, finish_stays, steps_on}
+use Rattle.mining.specs.Jobs.{rank_from, rank_after}
+use Rattle.std.proofs.Common.{refl, ℕ}
 use Rattle.dir_disk.specs.Moments.{Told, EachImage, Through, files}
 use Rattle.dir_disk.proofs.Through.{then_goes}
 use Rattle.mining.specs.declared.place.Place.TheVariants.{Vector}

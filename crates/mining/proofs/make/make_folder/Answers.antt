@@ -1,4 +1,3 @@
-use Rattle.std.specs.Prelude.{Ok, Err}
 use Rattle.job.specs.Whole.{plan_of}
 use Rattle.mining.specs.Stops.{no_memory, of_job}
 use Rattle.mining.proofs.Failures.{answer_err, quiet_stop, begun_stop, begun_done, job_names, job_none, job_stop}

@@ -4,7 +4,7 @@ use Rattle.mining.specs.declared.run.Reached.{Reached}
 use Rattle.job.specs.Failing.{gained}
 use Rattle.mining.proofs.JobsAdded.{behind_gain, behind_finish, gain_of, gain_within, none_finish, steps_on}
 use Rattle.mining.specs.Jobs.{rank_after, rank_from, rank_of_end}
-use Rattle.std.proofs.Common.{rules, ◌≡◌, ℕ, ◌+◌, ◌-◌, ◌^◌, ◌<◌, sym, subst, arith, refl, ◌≤◌}
+use Rattle.std.proofs.Common.{rules, ◌≡◌, ℕ, ◌+◌, ◌-◌, ◌^◌, ◌<◌, sym, subst, arith, refl}
 use Rattle.dir_disk.specs.Moments.{Told, EachImage, Through, files, Both}
 use Rattle.dir_disk.proofs.Through.{then_goes, started}
 use Rattle.mining.specs.declared.place.Place.TheVariants.{Vector}
