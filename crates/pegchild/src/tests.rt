@@ -1,5 +1,5 @@
-//! Of a child: what no row can say, which is what comes of streams that fail, and what is shown of a bad record. Of a program's words: that a long one hides none.
-//! They stand here, and not in `child` and `host_real`, since a crate with tests is proved twice, and this one is small.
+//! Of a child: what no row can say, which is what comes of streams that fail, and what is shown of a bad record. Of a
+//! program's words: that a long one hides none. They stand here, and not in `child` and `host_real`, since a crate with tests is proved twice, and this one is small.
 
 ghost use Rattle.std.specs.Prelude.{◌≤◌, length};
 
@@ -123,9 +123,10 @@ fn statuses_have_codes(rt: HostRuntime) {
     }
 }
 
-/// How a child ended over a text in pieces of so many bytes, and what is shown of a bad record.
+/// How a child ended over a text in pieces of so many bytes (one at least), and what is shown of a bad record.
 fn show(alloc: Global, line: &str, bytes: &[u8], piece: u32) -> Result<(ChildStatus, Front), Fail> {
     let words = words_of(alloc, line)?;
+    let piece = piece.max(1);
     let mut source = MemSource::new(Vec::from_slice(alloc, bytes)?, piece, Vec::new(alloc));
     let mut sink = MemSink::new(alloc, Vec::new(alloc));
     let mut front = Front::new(alloc);

@@ -1,5 +1,5 @@
-use hcc::Hcc;
 use gimv_core::{Closing, Gimv, One};
+use hcc::Hcc;
 use peg_text::NoMemory;
 
 #[test]

@@ -1,8 +1,8 @@
 ghost use Rattle.std.specs.Prelude.{◌≡◌};
 
-use report::*;
 use conf::{Command, Conf, Form};
 use dir_disk::Source;
+use report::*;
 use std::alloc::Global;
 use std::test::Fail;
 

@@ -1,7 +1,7 @@
 ghost use Rattle.std.specs.Prelude.{◌≡◌, length, IfOk};
 
-use merge::merge_runs;
 use dir_disk::SilentDir;
+use merge::merge_runs;
 use peg_base::{Name, Path};
 use peg_text::NoMemory;
 use std::alloc::Global;

@@ -1,7 +1,7 @@
 ghost use Rattle.gimv_core.specs.Algebras.{FitsWeight};
 
-use hadi::Hadi;
 use gimv_core::{Gimv, One};
+use hadi::Hadi;
 use peg_text::NoMemory;
 use std::alloc::Global;
 

@@ -1,7 +1,7 @@
 ghost use Rattle.std.specs.Prelude.{◌≤◌};
 
-use pagerank::PageRank;
 use gimv_core::Gimv;
+use pagerank::PageRank;
 use peg_text::NoMemory;
 
 #[test]

@@ -1,9 +1,9 @@
 ghost use Rattle.std.specs.Prelude.{◌≡◌, length, IfOk};
 
-use spill::Spill;
 use dir_disk::{Dir, SilentDir};
 use peg_base::{Name, Path};
 use peg_text::NoMemory;
+use spill::Spill;
 use std::alloc::Global;
 use std::process::Abort;
 use std::test::Fail;

@@ -1,6 +1,6 @@
-use splits::*;
 use dir_disk::SilentDir;
 use peg_base::{Name, Path};
+use splits::*;
 use std::test::Fail;
 
 #[test]
