@@ -60,4 +60,4 @@ parts_are_apart folder one other path small too differ =
 
 pub names_by_example : NamesByExample
 unfolding digits part_name task_name attempt_name input_name
-names_by_example = (refl, refl, refl, refl, refl)
+names_by_example = (refl, refl, refl, refl, refl, refl, refl)

@@ -1,9 +1,11 @@
 -- The names within a job's folder are names, and differ.
-use Rattle.std.proofs.Common.{◌≡◌, ◌≢◌, ℕ, ◌+◌, ◌%◌, ◌<◌, true, List, [], ◌∷◌, ◌++◌, length, get_or, codes, refl, ap, arith, length-append}
+use Rattle.std.proofs.Common.{◌≡◌, ◌≢◌, ◌∙◌, ℕ, ◌+◌, ◌%◌, ◌<◌, true, false, List, [], ◌∷◌, ◌++◌, length, get_or, codes, refl, ap, sym, arith, length-append}
+use Rattle.std.proofs.lemmas.Bool.{false≢true}
 use Rattle.std.proofs.lemmas.List.{append_cancel_left, append_cancel_right, same_from_push}
 use Rattle.peg_base.specs.declared.tasks.Phase.{Phase}
-use Rattle.peg_base.specs.declared.tasks.Phase.TheVariants.{Map, Reduce}
+use Rattle.peg_base.specs.declared.tasks.Phase.TheVariants.{Map, Combine, Reduce}
 use Rattle.peg_base.specs.NameText.{IsName}
+use Rattle.peg_base.specs.Tasks.{same_phase}
 use Rattle.digit_names.specs.Digits.{digits, begins_name}
 use Rattle.digit_names.proofs.DigitLemmas.{length-digits, digits_pass, digits_tell_numbers, begins_name-append, name_from_front}
 use Rattle.committer.specs.Paths.{success_name, temporary_name, part_name, task_front, task_name, attempt_front, attempt_name, input_front, input_name, shuffle_name}
@@ -12,10 +14,12 @@ use Rattle.committer.specs.Paths.{success_name, temporary_name, part_name, task_
 
 pub task_front_begins_name : (phase : Phase) → begins_name (task_front phase) ≡ true
 task_front_begins_name Map = refl
+task_front_begins_name Combine = refl
 task_front_begins_name Reduce = refl
 
 pub length-task_front : (phase : Phase) → length (task_front phase) ≡ 7
 length-task_front Map = refl
+length-task_front Combine = refl
 length-task_front Reduce = refl
 
 -- what stands before the number of the attempt
@@ -24,10 +28,12 @@ attempt_text phase task = attempt_front phase ++ digits 6 task ++ 45 ∷ []
 
 attempt_front_begins_name : (phase : Phase) → begins_name (attempt_front phase) ≡ true
 attempt_front_begins_name Map = refl
+attempt_front_begins_name Combine = refl
 attempt_front_begins_name Reduce = refl
 
 length-attempt_front : (phase : Phase) → length (attempt_front phase) ≡ 10
 length-attempt_front Map = refl
+length-attempt_front Combine = refl
 length-attempt_front Reduce = refl
 
 pub attempt_text_begins_name : (phase : Phase) (task : ℕ) → begins_name (attempt_text phase task) ≡ true
@@ -42,10 +48,12 @@ length-attempt_text phase task =
 
 input_front_begins_name : (phase : Phase) → begins_name (input_front phase) ≡ true
 input_front_begins_name Map = refl
+input_front_begins_name Combine = refl
 input_front_begins_name Reduce = refl
 
 length-input_front : (phase : Phase) → length (input_front phase) ≡ 2
 length-input_front Map = refl
+length-input_front Combine = refl
 length-input_front Reduce = refl
 
 pub input_is_name : (phase : Phase) (task : ℕ) → IsName (input_front phase ++ digits 6 task ++ codes ".in")
@@ -77,25 +85,31 @@ success_not_temporary = differ_at 1 (codes "_SUCCESS") (codes "_temporary") (ome
 attempt_begins : (phase : Phase) (task number : ℕ) → get_or (attempt_name phase task number) 0 0 ≡ 97
 unfolding attempt_name
 attempt_begins Map task number = refl
+attempt_begins Combine task number = refl
 attempt_begins Reduce task number = refl
 
 task_begins : (phase : Phase) (task : ℕ) → get_or (task_name phase task) 0 0 ≡ 116
 unfolding task_name
 task_begins Map task = refl
+task_begins Combine task = refl
 task_begins Reduce task = refl
 
-abbrev input_letter : Phase → ℕ
-input_letter Map = 109
-input_letter Reduce = 114
+-- the letter of a phase
+abbrev letter : Phase → ℕ
+letter Map = 109
+letter Combine = 99
+letter Reduce = 114
 
-input_begins : (phase : Phase) (task : ℕ) → get_or (input_name phase task) 0 0 ≡ input_letter phase
+input_begins : (phase : Phase) (task : ℕ) → get_or (input_name phase task) 0 0 ≡ letter phase
 unfolding input_name
 input_begins Map task = refl
+input_begins Combine task = refl
 input_begins Reduce task = refl
 
-input_letters : (phase : Phase) → (97 < input_letter phase) × (input_letter phase < 115)
-input_letters Map = (omega arith, omega arith)
-input_letters Reduce = (omega arith, omega arith)
+letters_between : (phase : Phase) → (97 < letter phase) × (letter phase < 115)
+letters_between Map = (omega arith, omega arith)
+letters_between Combine = (omega arith, omega arith)
+letters_between Reduce = (omega arith, omega arith)
 
 shuffle_begins : get_or shuffle_name 0 0 ≡ 115
 unfolding shuffle_name
@@ -107,7 +121,7 @@ attempt_not_task phase kind task other number =
 
 pub attempt_not_input : (phase kind : Phase) (task other number : ℕ) → attempt_name phase task number ≢ input_name kind other
 attempt_not_input phase kind task other number =
-    differ_at 0 (attempt_name phase task number) (input_name kind other) (omega (arith, attempt_begins phase task number, input_begins kind other, input_letters kind))
+    differ_at 0 (attempt_name phase task number) (input_name kind other) (omega (arith, attempt_begins phase task number, input_begins kind other, letters_between kind))
 
 pub attempt_not_shuffle : (phase : Phase) (task number : ℕ) → attempt_name phase task number ≢ shuffle_name
 attempt_not_shuffle phase task number =
@@ -115,7 +129,7 @@ attempt_not_shuffle phase task number =
 
 pub task_not_input : (phase kind : Phase) (task other : ℕ) → task_name phase task ≢ input_name kind other
 task_not_input phase kind task other =
-    differ_at 0 (task_name phase task) (input_name kind other) (omega (arith, task_begins phase task, input_begins kind other, input_letters kind))
+    differ_at 0 (task_name phase task) (input_name kind other) (omega (arith, task_begins phase task, input_begins kind other, letters_between kind))
 
 pub task_not_shuffle : (phase : Phase) (task : ℕ) → task_name phase task ≢ shuffle_name
 task_not_shuffle phase task =
@@ -123,7 +137,7 @@ task_not_shuffle phase task =
 
 pub input_not_shuffle : (phase : Phase) (task : ℕ) → input_name phase task ≢ shuffle_name
 input_not_shuffle phase task =
-    differ_at 0 (input_name phase task) shuffle_name (omega (arith, input_begins phase task, input_letters phase, shuffle_begins))
+    differ_at 0 (input_name phase task) shuffle_name (omega (arith, input_begins phase task, letters_between phase, shuffle_begins))
 
 -- ---- names of one kind tell their numbers
 
@@ -153,16 +167,38 @@ inputs_differ phase m n small other same =
 
 -- ---- phases have names of their own
 
-pub task_phases_differ : (m n : ℕ) → task_name Map m ≢ task_name Reduce n
+letters_differ : (one other : Phase) → same_phase one other ≡ false → letter one ≢ letter other
+letters_differ Map Map other same = false≢true (sym other)
+letters_differ Map Combine other same = omega (arith, same)
+letters_differ Map Reduce other same = omega (arith, same)
+letters_differ Combine Map other same = omega (arith, same)
+letters_differ Combine Combine other same = false≢true (sym other)
+letters_differ Combine Reduce other same = omega (arith, same)
+letters_differ Reduce Map other same = omega (arith, same)
+letters_differ Reduce Combine other same = omega (arith, same)
+letters_differ Reduce Reduce other same = false≢true (sym other)
+
+task_letter : (phase : Phase) (task : ℕ) → get_or (task_name phase task) 5 0 ≡ letter phase
 unfolding task_name
-task_phases_differ m n =
-    differ_at 5 (task_front Map ++ digits 6 m) (task_front Reduce ++ digits 6 n) (omega arith)
+task_letter Map task = refl
+task_letter Combine task = refl
+task_letter Reduce task = refl
 
-pub attempt_phases_differ : (m n a b : ℕ) → attempt_name Map m a ≢ attempt_name Reduce n b
+attempt_letter : (phase : Phase) (task number : ℕ) → get_or (attempt_name phase task number) 8 0 ≡ letter phase
 unfolding attempt_name
-attempt_phases_differ m n a b =
-    differ_at 8 (attempt_text Map m ++ digits 1 a) (attempt_text Reduce n ++ digits 1 b) (omega arith)
+attempt_letter Map task number = refl
+attempt_letter Combine task number = refl
+attempt_letter Reduce task number = refl
 
-pub input_phases_differ : (m n : ℕ) → input_name Map m ≢ input_name Reduce n
-input_phases_differ m n =
-    differ_at 0 (input_name Map m) (input_name Reduce n) (omega (arith, input_begins Map m, input_begins Reduce n))
+module _ (one other : Phase) (differ : same_phase one other ≡ false) where
+  pub task_phases_differ : (m n : ℕ) → task_name one m ≢ task_name other n
+  task_phases_differ m n =
+      differ_at 5 (task_name one m) (task_name other n) (λ same. letters_differ one other differ (sym (task_letter one m) ∙ same ∙ task_letter other n))
+
+  pub attempt_phases_differ : (m n a b : ℕ) → attempt_name one m a ≢ attempt_name other n b
+  attempt_phases_differ m n a b =
+      differ_at 8 (attempt_name one m a) (attempt_name other n b) (λ same. letters_differ one other differ (sym (attempt_letter one m a) ∙ same ∙ attempt_letter other n b))
+
+  pub input_phases_differ : (m n : ℕ) → input_name one m ≢ input_name other n
+  input_phases_differ m n =
+      differ_at 0 (input_name one m) (input_name other n) (λ same. letters_differ one other differ (sym (input_begins one m) ∙ same ∙ input_begins other n))

@@ -1,12 +1,11 @@
 -- The paths below a job's `_temporary` lie apart.
 use Rattle.std.proofs.Common.{◌≡◌, ◌≢◌, ℕ, ◌<◌, true, false, ◌⊎◌, ⊎_elim, List, [], ◌∷◌, ◌++◌, sym}
 use Rattle.peg_base.specs.declared.tasks.Phase.{Phase}
-use Rattle.peg_base.specs.declared.tasks.Phase.TheVariants.{Map, Reduce}
 use Rattle.peg_base.specs.declared.tasks.Attempt.{Attempt}
 use Rattle.peg_base.specs.Names.{Names, under}
 use Rattle.peg_base.proofs.Under.{under-append, children_apart}
 use Rattle.committer.specs.Paths.{temporary_of, task_name, task_of, task_output_of, output_name, attempt_name, attempt_of, output_of, input_name, task_input_of, shuffle_name, shuffle_of}
-use Rattle.committer.proofs.NamesApart.{attempt_not_task, attempt_not_input, attempt_not_shuffle, task_not_input, task_not_shuffle, input_not_shuffle, tasks_differ, attempts_differ, inputs_differ, task_phases_differ, attempt_phases_differ, input_phases_differ}
+use Rattle.committer.proofs.NamesApart.{attempt_not_task, attempt_not_input, attempt_not_shuffle, task_not_input, task_not_shuffle, input_not_shuffle, tasks_differ, attempts_differ, inputs_differ}
 
 -- ---- what lies where
 
@@ -89,17 +88,3 @@ child_of folder name = temporary_of folder ++ name ∷ []
 pub attempts_apart : (folder : Names) (phase : Phase) (one other a b : ℕ) (q : Names) → one < 1000000 → other < 1000000 → a < 10 → b < 10 → (one ≢ other) ⊎ (a ≢ b) → under (child_of folder (attempt_name phase one a)) q ≡ true → under (child_of folder (attempt_name phase other b)) q ≡ false
 attempts_apart folder phase one other a b q small also few less differ inside =
     children_apart (temporary_of folder) (attempt_name phase one a) (attempt_name phase other b) q (attempt_names_apart phase one other a b small also few less differ) inside
-
--- ---- phases
-
-pub phase_tasks_apart : (folder : Names) (one other : ℕ) (q : Names) → under (task_of folder Map one) q ≡ true → under (task_of folder Reduce other) q ≡ false
-phase_tasks_apart folder one other q inside =
-    children_apart (temporary_of folder) (task_name Map one) (task_name Reduce other) q (task_phases_differ one other) inside
-
-pub phase_attempts_apart : (folder : Names) (one other a b : ℕ) (q : Names) → under (child_of folder (attempt_name Map one a)) q ≡ true → under (child_of folder (attempt_name Reduce other b)) q ≡ false
-phase_attempts_apart folder one other a b q inside =
-    children_apart (temporary_of folder) (attempt_name Map one a) (attempt_name Reduce other b) q (attempt_phases_differ one other a b) inside
-
-pub phase_inputs_apart : (folder : Names) (one other : ℕ) (q : Names) → under (task_input_of folder Map one) q ≡ true → under (task_input_of folder Reduce other) q ≡ false
-phase_inputs_apart folder one other q inside =
-    children_apart (temporary_of folder) (input_name Map one) (input_name Reduce other) q (input_phases_differ one other) inside

@@ -1,6 +1,6 @@
 -- What folders and their paths are good for, as laws.
 use Rattle.std.specs.Prelude.{◌≡◌, ◌≢◌, ℕ, ◌<◌, true, false, ◌↔◌, codes}
-use Rattle.peg_base.specs.declared.tasks.Phase.TheVariants.{Map, Reduce}
+use Rattle.peg_base.specs.declared.tasks.Phase.TheVariants.{Map, Combine, Reduce}
 use Rattle.peg_base.specs.Names.{Names, under, same_path}
 use Rattle.dir_disk.specs.State.{State, Image, Fits, IsSound}
 use Rattle.committer.specs.Paths.{success_of, part_of, part_name, task_name, task_part_of, attempt_name, input_name}
@@ -30,4 +30,4 @@ PartsAreApart =
 -- numbers are filled with zeros
 abbrev pub NamesByExample : Type 0
 NamesByExample =
-    (part_name 63 ≡ codes "part-00063") × (task_name Map 524287 ≡ codes "task-m-524287") × (attempt_name Reduce 7 4 ≡ codes "attempt-r-000007-4") × (input_name Map 0 ≡ codes "m-000000.in") × (input_name Reduce 63 ≡ codes "r-000063.in")
+    (part_name 63 ≡ codes "part-00063") × (task_name Map 524287 ≡ codes "task-m-524287") × (attempt_name Reduce 7 4 ≡ codes "attempt-r-000007-4") × (task_name Combine 1 ≡ codes "task-c-000001") × (input_name Map 0 ≡ codes "m-000000.in") × (input_name Combine 20 ≡ codes "c-000020.in") × (input_name Reduce 63 ≡ codes "r-000063.in")

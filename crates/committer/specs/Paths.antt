@@ -2,7 +2,7 @@
 use Rattle.std.specs.Prelude.{ℕ, List, [], ◌∷◌, ◌++◌, codes}
 use Rattle.peg_base.specs.Names.{Names}
 use Rattle.peg_base.specs.declared.tasks.Phase.{Phase}
-use Rattle.peg_base.specs.declared.tasks.Phase.TheVariants.{Map, Reduce}
+use Rattle.peg_base.specs.declared.tasks.Phase.TheVariants.{Map, Combine, Reduce}
 use Rattle.peg_base.specs.declared.tasks.Attempt.{Attempt}
 use Rattle.digit_names.specs.Digits.{digits}
 
@@ -20,6 +20,7 @@ part_name part = codes "part-" ++ digits 5 part
 
 abbrev pub task_front : Phase → List ℕ
 task_front Map = codes "task-m-"
+task_front Combine = codes "task-c-"
 task_front Reduce = codes "task-r-"
 
 -- the folder of a task that is committed
@@ -28,6 +29,7 @@ task_name phase task = task_front phase ++ digits 6 task
 
 abbrev pub attempt_front : Phase → List ℕ
 attempt_front Map = codes "attempt-m-"
+attempt_front Combine = codes "attempt-c-"
 attempt_front Reduce = codes "attempt-r-"
 
 -- the folder of an attempt
@@ -36,6 +38,7 @@ attempt_name phase task number = attempt_front phase ++ digits 6 task ++ 45 ∷ 
 
 abbrev pub input_front : Phase → List ℕ
 input_front Map = codes "m-"
+input_front Combine = codes "c-"
 input_front Reduce = codes "r-"
 
 -- the file that the children of a task read
@@ -49,6 +52,7 @@ shuffle_name = codes "shuffle"
 -- what a task's output is called: a reduce task makes the part of its own number
 abbrev pub output_name : Phase → ℕ → List ℕ
 output_name Map task = codes "out"
+output_name Combine task = codes "out"
 output_name Reduce task = part_name task
 
 -- ---- paths

@@ -48,6 +48,7 @@ fn task_front(phase: Phase) -> &'static [u8]
 {
     match phase {
         Phase::Map => b"task-m-",
+        Phase::Combine => b"task-c-",
         Phase::Reduce => b"task-r-",
     }
 }
@@ -67,6 +68,7 @@ fn attempt_front(phase: Phase) -> &'static [u8]
 {
     match phase {
         Phase::Map => b"attempt-m-",
+        Phase::Combine => b"attempt-c-",
         Phase::Reduce => b"attempt-r-",
     }
 }
@@ -85,6 +87,7 @@ fn input_front(phase: Phase) -> &'static [u8]
 {
     match phase {
         Phase::Map => b"m-",
+        Phase::Combine => b"c-",
         Phase::Reduce => b"r-",
     }
 }
@@ -93,7 +96,7 @@ fn output_name(alloc: Global, phase: Phase, task: u32) -> Result<Name, NoMemory>
     ensures { IfOk result (λ name. name ≡ output_name phase task) }
 {
     match phase {
-        Phase::Map => new_name(alloc, b"out"),
+        Phase::Map | Phase::Combine => new_name(alloc, b"out"),
         Phase::Reduce => part_name(alloc, task),
     }
 }

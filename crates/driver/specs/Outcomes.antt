@@ -11,7 +11,7 @@ use Rattle.driver.specs.declared.outcome.Outcome.TheVariants.{Done, Usage, BadEd
 use Rattle.std.specs.List.{flat_map}
 use Rattle.peg_base.specs.Names.{Names}
 use Rattle.peg_base.specs.declared.tasks.Phase.{Phase}
-use Rattle.peg_base.specs.declared.tasks.Phase.TheVariants.{Map, Reduce}
+use Rattle.peg_base.specs.declared.tasks.Phase.TheVariants.{Map, Combine, Reduce}
 use Rattle.mining.specs.declared.stop.Stop.{Stop}
 
 abbrev pub code_of : Outcome → ℕ
@@ -43,6 +43,7 @@ path_text (name ∷ names) = name ++ flat_map slashed names
 
 abbrev pub phase_word : Phase → List ℕ
 phase_word Map = codes " map "
+phase_word Combine = codes " combine "
 phase_word Reduce = codes " reduce "
 
 abbrev pub line_of : Outcome → List ℕ

@@ -54,6 +54,7 @@ impl<'a> Display for Line<'a> {
         }
         let phase = match self.attempt.task.phase {
             Phase::Map => "map",
+            Phase::Combine => "combine",
             Phase::Reduce => "reduce",
         };
         let (task, number) = (self.attempt.task.task, self.attempt.number);

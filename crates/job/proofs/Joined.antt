@@ -5,7 +5,7 @@ use Rattle.std.proofs.lemmas.List.{append-nil}
 use Rattle.std.proofs.lemmas.List.Sums.{sum_by-append, sum_by-cons}
 use Rattle.peg_base.specs.Names.{Names, same_path}
 use Rattle.peg_base.specs.declared.tasks.Phase.{Phase}
-use Rattle.peg_base.specs.declared.tasks.Phase.TheVariants.{Map, Reduce}
+use Rattle.peg_base.specs.declared.tasks.Phase.TheVariants.{Map, Combine, Reduce}
 use Rattle.peg_base.specs.declared.tasks.TaskId.{TaskId}
 use Rattle.peg_base.specs.declared.tasks.Attempt.{Attempt}
 use Rattle.dir_disk.specs.State.{State}
@@ -83,6 +83,15 @@ of_front w (x ∷ front) ends (first, rest) = (first, of_front w front ends rest
 
 -- ---- what the entries tell by themselves
 
+map_few : (folder : Names) (v : Work) (entries : List LogEntry) → v.phase ≡ Map → AllByRecursion (IsEntryOf v) entries → ((t : ℕ) → failed_of (task_id folder Map t) entries < 4) → HasFewFailures folder entries
+map_few folder v entries is_map of_entries few Map t = few t
+map_few folder v entries is_map of_entries few Combine t =
+    let none = failed_none v (task_id folder Combine t) entries (ap (λ (p : Phase). same_phase p Combine) is_map) of_entries in
+    omega (arith, none)
+map_few folder v entries is_map of_entries few Reduce t =
+    let none = failed_none v (task_id folder Reduce t) entries (ap (λ (p : Phase). same_phase p Reduce) is_map) of_entries in
+    omega (arith, none)
+
 map_cut : (folder : Names) (v : Work) (entries : List LogEntry) → v.phase ≡ Map → AllByRecursion (IsEntryOf v) entries → StopsEarly folder Map entries → IsCutShort folder entries
 map_cut folder v entries is_map of_work stops =
     let of_entries : AllByRecursion (IsEntryOf v) (stops.front ++ stops.ends) = subst (λ (xs : List LogEntry). AllByRecursion (IsEntryOf v) xs) stops.parts of_work in
@@ -90,7 +99,7 @@ map_cut folder v entries is_map of_work stops =
       front = stops.front;
       ends = stops.ends;
       parts = stops.parts;
-      few = λ t. let none = failed_none v (task_id folder Reduce t) stops.front (ap (λ (p : Phase). same_phase p Reduce) is_map) (of_front v stops.front stops.ends of_entries) in (stops.few t, omega (arith, none));
+      few = map_few folder v stops.front is_map (of_front v stops.front stops.ends of_entries) stops.few;
       none_made = stops.none_made;
     }
 
@@ -113,12 +122,19 @@ module _ (folder : Names) (v w : Work) (maps : List LogEntry) (is_map : v.phase 
       omega (arith, failed-append id maps reduces, none)
 
   few_failures : (reduces : List LogEntry) → AllByRecursion (IsEntryOf w) reduces → ((t : ℕ) → failed_of (task_id folder Map t) maps < 4) → ((t : ℕ) → failed_of (task_id folder Reduce t) reduces < 4) → HasFewFailures folder (maps ++ reduces)
-  few_failures reduces of_reduces few_maps few_reduces t =
+  few_failures reduces of_reduces few_maps few_reduces Map t =
       let first = map_failed (task_id folder Map t) reduces of_reduces refl in
+      let few = few_maps t in
+      omega (arith, first, few)
+  few_failures reduces of_reduces few_maps few_reduces Combine t =
+      let id = task_id folder Combine t in
+      let first = failed_none v id maps (ap (λ (p : Phase). same_phase p Combine) is_map) of_maps in
+      let second = failed_none w id reduces (ap (λ (p : Phase). same_phase p Combine) is_reduce) of_reduces in
+      omega (arith, failed-append id maps reduces, first, second)
+  few_failures reduces of_reduces few_maps few_reduces Reduce t =
       let second = reduce_failed (task_id folder Reduce t) reduces refl in
-      let one = few_maps t in
-      let other = few_reduces t in
-      (omega (arith, first, one), omega (arith, second, other))
+      let few = few_reduces t in
+      omega (arith, second, few)
 
   reduce_cut : (reduces : List LogEntry) → AllByRecursion (IsEntryOf w) reduces → ((t : ℕ) → failed_of (task_id folder Map t) maps < 4) → StopsEarly folder Reduce reduces → IsCutShort folder (maps ++ reduces)
   reduce_cut reduces of_reduces few_maps stops =
@@ -285,11 +301,24 @@ job_log_maps S tells gives folder plan slots a b had has last fault log =
 
 -- where at most one attempt of a task runs at once no task succeeds twice
 pub none_twice : (tells : Type 0) (gives : List (List ℕ) → List ℕ → List ℕ) (folder : Names) (plan : Plan) (slots : ℕ) (old new : Seen) (had has : List Given) (e : Told) (result : Result JobReport JobFault) → (log : JobLog MayStart tells gives folder plan slots old new had has e result) → NoneTwice folder (log.maps ++ log.reduces)
-none_twice tells gives folder plan slots old new had has e result log t =
-    let v = work_of folder Map plan.map_words log.count in
-    let w = work_of folder Reduce plan.reduce_words plan.reducers in
-    let map = task_id folder Map t in
-    let reduce = task_id folder Reduce t in (
-      omega (arith, done-append map log.maps log.reduces, done_none w map log.reduces refl log.of_reduces, once_tells v slots log.maps t log.of_maps log.map_run),
-      omega (arith, done-append reduce log.maps log.reduces, done_none v reduce log.maps refl log.of_maps, once_tells w slots log.reduces t log.of_reduces log.reduce_run),
-    )
+none_twice tells gives folder plan slots old new had has e result log phase t = of phase
+  where
+    v : Work
+    v = work_of folder Map plan.map_words log.count
+
+    w : Work
+    w = work_of folder Reduce plan.reduce_words plan.reducers
+
+    both : (id : TaskId) → done_of id (log.maps ++ log.reduces) ≡ done_of id log.maps + done_of id log.reduces
+    both id = done-append id log.maps log.reduces
+
+    of : (phase : Phase) → done_of (task_id folder phase t) (log.maps ++ log.reduces) ≤ 1
+    of Map =
+        let id = task_id folder Map t in
+        omega (arith, both id, done_none w id log.reduces refl log.of_reduces, once_tells v slots log.maps t log.of_maps log.map_run)
+    of Combine =
+        let id = task_id folder Combine t in
+        omega (arith, both id, done_none v id log.maps refl log.of_maps, done_none w id log.reduces refl log.of_reduces)
+    of Reduce =
+        let id = task_id folder Reduce t in
+        omega (arith, both id, done_none v id log.maps refl log.of_maps, once_tells w slots log.reduces t log.of_reduces log.reduce_run)

@@ -8,7 +8,7 @@ use Rattle.std.proofs.Math.Seq.{drop-append_seam}
 use Rattle.peg_base.specs.Names.{Names, same_path}
 use Rattle.peg_base.proofs.Under.{same_path-refl}
 use Rattle.peg_base.specs.declared.tasks.Phase.{Phase}
-use Rattle.peg_base.specs.declared.tasks.Phase.TheVariants.{Map, Reduce}
+use Rattle.peg_base.specs.declared.tasks.Phase.TheVariants.{Map, Combine, Reduce}
 use Rattle.peg_base.specs.declared.tasks.Attempt.{Attempt}
 use Rattle.dir_disk.specs.Moments.{Told}
 use Rattle.dir_disk.specs.Children.{Given, Seen}
@@ -28,6 +28,7 @@ use Rattle.job.specs.Ran.{Answers, Ran, StopsEarly, TellsOf}
 
 same_phase-refl : (phase : Phase) → same_phase phase phase ≡ true
 same_phase-refl Map = refl
+same_phase-refl Combine = refl
 same_phase-refl Reduce = refl
 
 -- an attempt of this work is one of task t where its number is t

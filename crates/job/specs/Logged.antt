@@ -3,7 +3,7 @@ use Rattle.std.specs.Prelude.{◌≡◌, ℕ, Bool, true, false, ◌+◌, ◌<�
 use Rattle.std.specs.List.{AllByRecursion}
 use Rattle.peg_base.specs.Names.{Names}
 use Rattle.peg_base.specs.declared.tasks.Phase.{Phase}
-use Rattle.peg_base.specs.declared.tasks.Phase.TheVariants.{Map, Reduce}
+use Rattle.peg_base.specs.declared.tasks.Phase.TheVariants.{Map, Combine, Reduce}
 use Rattle.peg_base.specs.declared.tasks.TaskId.{TaskId}
 use Rattle.dir_disk.specs.State.{State}
 use Rattle.dir_disk.specs.Moments.{Told, clock}
@@ -145,9 +145,10 @@ JobAnswers S v w slots maps reduces (Ok report) =
     IsDone S (fresh v.count slots) maps × IsDone S (fresh w.count slots) reduces × (report.maps ≡ v.count) × (report.reduces ≡ w.count) × (report.attempts ≡ made_in maps + made_in reduces)
 JobAnswers S v w slots maps reduces (Err fault) = IsCauseOfJob S v w slots maps reduces fault
 
--- the one of the map tasks or the one of the reduce tasks
+-- the one of the map tasks or the one of the reduce tasks: such a job has no others
 abbrev pub of_phase : Phase → ℕ → ℕ → ℕ
 of_phase Map map reduce = map
+of_phase Combine map reduce = 0
 of_phase Reduce map reduce = reduce
 
 -- a job was given up before its reduce tasks were run: before its map tasks were, or in their run; or when these were done, before the reduce tasks were run or in their run; or when all tasks were done. Where it was in the run of a phase, the calls of the directory since the phase began are the commits before that
@@ -181,7 +182,7 @@ pub record JobLog (S : Rule) (tells : Type 0) (gives : List (List ℕ) → List 
 -- of no task have four attempts failed
 abbrev pub HasFewFailures : Names → List LogEntry → Type 0
 HasFewFailures folder entries =
-    (t : ℕ) → (failed_of (task_id folder Map t) entries < 4) × (failed_of (task_id folder Reduce t) entries < 4)
+    (phase : Phase) (t : ℕ) → failed_of (task_id folder phase t) entries < 4
 
 -- before a refusal of no task had four attempts failed, and after it no attempt was made
 pub record IsCutShort (folder : Names) (entries : List LogEntry) : Type 0 where
@@ -215,4 +216,4 @@ IsLeftBy folder reducers entries state (Err NoMemory) = IsUnmarked folder state 
 -- no task has succeeded twice
 abbrev pub NoneTwice : Names → List LogEntry → Type 0
 NoneTwice folder entries =
-    (t : ℕ) → (done_of (task_id folder Map t) entries ≤ 1) × (done_of (task_id folder Reduce t) entries ≤ 1)
+    (phase : Phase) (t : ℕ) → done_of (task_id folder phase t) entries ≤ 1

@@ -7,7 +7,6 @@ use Rattle.std.proofs.lemmas.List.{append-nil}
 use Rattle.std.proofs.lemmas.List.Sums.{sum_by-append, sum_by-cons}
 use Rattle.peg_base.specs.Names.{Names, same_path}
 use Rattle.peg_base.specs.Tasks.{same_phase}
-use Rattle.peg_base.specs.declared.tasks.Phase.{Phase}
 use Rattle.peg_base.specs.declared.tasks.Phase.TheVariants.{Map, Reduce}
 use Rattle.peg_base.specs.declared.tasks.TaskId.{TaskId}
 use Rattle.peg_base.specs.declared.tasks.Attempt.{Attempt}
@@ -273,14 +272,10 @@ module _ (tells : Type 0) (gives : List (List ℕ) → List ℕ → List ℕ) (c
 
 -- ---- a job
 
-by_phase : (folder : Names) (entries : List LogEntry) → HasFewFailures folder entries → (phase : Phase) (t : ℕ) → failed_of (task_id folder phase t) entries < 4
-by_phase folder entries few Map t = (few t).0
-by_phase folder entries few Reduce t = (few t).1
-
 module _ (folder : Names) where
   few_none_of : (entries : List LogEntry) → AllByRecursion (λ entry. (tried entry).task.job ≡ folder) entries → HasFewFailures folder entries → NoneFailed entries
   few_none_of entries each few id =
-      ⊎_elim (λ none. omega (arith, none)) (λ same. subst (λ (job : Names). failed_of (task_id job id.phase id.task) entries < 4) (sym same) (by_phase folder entries few id.phase id.task)) (found (λ job. job ≡ folder) id entries each)
+      ⊎_elim (λ none. omega (arith, none)) (λ same. subst (λ (job : Names). failed_of (task_id job id.phase id.task) entries < 4) (sym same) (few id.phase id.task)) (found (λ job. job ≡ folder) id entries each)
 
 module _ (folder : Names) (entries : List LogEntry) (each : AllByRecursion (λ entry. (tried entry).task.job ≡ folder) entries) where
   cut_short : IsCutShort folder entries → IsCutOff entries

@@ -4,11 +4,13 @@ use crate::Path;
 use peg_text::NoMemory;
 use std::alloc::Global;
 
-/// The two phases of a job.
+/// The phases of a job, in their order. Only jobs with a combiner have the second one.
 #[derive(Clone, Copy, Debug, PartialEq, Eq)]
 pub enum Phase {
     /// Splits of the input go to mappers.
     Map,
+    /// What the mappers wrote goes to combiners, chunk by chunk and sorted.
+    Combine,
     /// Sorted pairs go to reducers, one for each part.
     Reduce,
 }

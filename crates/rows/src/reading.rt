@@ -80,6 +80,7 @@ fn task_of(alloc: Global, text: &[u8]) -> Result<TaskId, Trouble> {
     };
     let phase = match *letter {
         b'm' => Phase::Map,
+        b'c' => Phase::Combine,
         b'r' => Phase::Reduce,
         _ => return Err(Trouble::Misread),
     };

@@ -60,13 +60,14 @@ pub(crate) fn add_path(out: &mut Vec<u8>, path: &Path) -> Result<(), Trouble> {
     Ok(())
 }
 
-/// Adds a task as `FOLDER/m0` or `FOLDER/r0`.
+/// Adds a task as `FOLDER/m0`, `FOLDER/c0` or `FOLDER/r0`.
 pub(crate) fn add_task(alloc: Global, out: &mut Vec<u8>, task: &TaskId) -> Result<(), Trouble> {
     add_path(out, &task.job)?;
     add(
         out,
         match task.phase {
             Phase::Map => b"/m",
+            Phase::Combine => b"/c",
             Phase::Reduce => b"/r",
         },
     )?;

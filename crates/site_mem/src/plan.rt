@@ -147,6 +147,7 @@ fn is_same_phase(one: Phase, other: Phase) -> bool
 {
     match one {
         Phase::Map => matches!(other, Phase::Map),
+        Phase::Combine => matches!(other, Phase::Combine),
         Phase::Reduce => matches!(other, Phase::Reduce),
     }
 }

@@ -1,7 +1,5 @@
 ghost use Rattle.std.specs.Prelude.{◌≡◌, ◌+◌, ◌<◌, ◌≤◌, [], All, drop, length, map, replicate, take, IfOk};
-ghost use Rattle.peg_text.specs.Pairs.{key_of};
 ghost use Rattle.pairs.specs.Pairs.{IsPlain, pairs_in, pairs_text};
-ghost use Rattle.pairs.specs.Prefixes.{prefix_of};
 ghost use Rattle.spill.specs.Chunks.{parts_of, sorted_parts_of};
 ghost use Rattle.spill.specs.Lines.{line_length};
 
@@ -14,13 +12,13 @@ use std::alloc::Global;
 /// Pairs that lie in a chunk's text.
 pub(crate) type Lines<'a> = Vec<Line<'a>>;
 
-/// As many empty lists as there are parts.
-fn empty_parts<'a>(alloc: Global, reducers: u32) -> Result<Vec<Lines<'a>>, NoMemory>
+/// As many empty lists as there are parts, each with room for so many lines.
+fn empty_parts<'a>(alloc: Global, reducers: u32, room: usize) -> Result<Vec<Lines<'a>>, NoMemory>
     ensures { IfOk result (λ parts. map (λ pairs. pairs.items) parts.items ≡ replicate reducers []) }
 {
     let mut parts: Vec<Lines<'a>> = Vec::new(alloc);
     for _part in 0..reducers {
-        let empty: Lines<'a> = Vec::new(alloc);
+        let empty: Lines<'a> = Vec::with_capacity(alloc, room)?;
         parts.push(empty)?;
     }
     Ok(parts)
@@ -49,7 +47,7 @@ fn deal<'a>(
     ensures { IfOk result
         (λ parts. map (λ pairs. pairs.items) parts.items ≡ parts_of reducers (pairs_in text.now)) }
 {
-    let mut parts = empty_parts(alloc, reducers)?;
+    let mut parts = empty_parts(alloc, reducers, sizes.len() / reducers as usize)?;
     let mut left = text;
     for size in sizes {
         let (line, rest) = first_line(left, *size as usize);

@@ -12,12 +12,14 @@ use std::alloc::Global;
 use std::cmp::Ordering;
 use std::marker::Model;
 
-/// A pair that lies in a chunk's text as a line, beside the rank of its key. Contracts see the pair, and lines are in the
-/// order of pairs.
+/// A pair that lies in a chunk's text as a line, beside the rank of its key and the front of its value. Contracts see the
+/// pair, and lines are in the order of pairs.
 #[derive(Drop)]
 pub(crate) struct Line<'a> {
     /// The first seven bytes of the key as a number, and in its lowest byte how many bytes the key has, eight at most.
     rank: u64,
+    /// The first eight bytes of the value as a number, which tells most lines with one key apart.
+    front: u64,
     text: &'a [u8],
 }
 
@@ -29,7 +31,7 @@ impl<'a> Model for Line<'a> {
 
     ghost view = { λ line. pair_of line.text.now };
 
-    ghost invariant = { λ line. IsLine line.text.now line.rank };
+    ghost invariant = { λ line. IsLine line.text.now line.rank line.front };
 }
 
 impl<'a> Line<'a> {
@@ -41,7 +43,8 @@ impl<'a> Line<'a> {
         ensures { result ≡ pair_of text.now }
     {
         let rank = prefix / 256 * 256 + key.min(8) as u64;
-        Line { rank, text }
+        let front = front_of(value_behind(text, key));
+        Line { rank, front, text }
     }
 
     /// Appends the line and its LF. After a refusal a part of it may have been appended.
@@ -97,9 +100,32 @@ impl<'a> Ord for Line<'a> {
 
     fn cmp(&self, other: &Line<'a>) -> Ordering {
         match self.rank.cmp(&other.rank) {
-            Ordering::Equal if self.rank % 256 < 8 => self.text.cmp(other.text),
+            Ordering::Equal if self.rank % 256 < 8 => match self.front.cmp(&other.front) {
+                Ordering::Equal => self.text.cmp(other.text),
+                order => order,
+            },
             Ordering::Equal => self.pair().cmp(&other.pair()),
             order => order,
         }
     }
+}
+
+/// The value of a line whose key has this length.
+fn value_behind(text: &[u8], key: usize) -> &[u8]
+    requires key { key ≡ length (key_of text.now) }
+    requires whole { pair_text (key_of text.now) (value_of text.now) ≡ text.now }
+    ensures { result.now ≡ value_of text.now }
+{
+    &text[key + 1..]
+}
+
+/// The first eight bytes of a text as a number, with zeros where it has fewer.
+fn front_of(text: &[u8]) -> u64
+    ensures { result ≡ prefix_of text.now }
+{
+    let mut number = 0;
+    for at in 0..8 {
+        number = number * 256 + u64::from(text.get(at).copied().unwrap_or(0));
+    }
+    number
 }

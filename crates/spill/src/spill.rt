@@ -17,6 +17,9 @@ use peg_text::{NoMemory, write_pair};
 use std::alloc::Global;
 use std::marker::Model;
 
+/// The most bytes for which room is asked at once.
+const MOST_ROOM: u64 = 1 << 26;
+
 /// Pairs of a key and a value on their way to sorted runs. They are held up to a limit of bytes, in the order in which
 /// they were pushed, and a flush writes them as files, one for each part that has some.
 #[derive(Drop)]
@@ -55,12 +58,13 @@ impl Spill {
         ensures { IfOk result (λ spill. spill ≡ empty_spill limit reducers folder.now) }
     {
         let runs = empty_runs(alloc, reducers)?;
+        let room = limit.min(MOST_ROOM) as usize / 4 * 5;
         Ok(Spill {
             limit,
             reducers,
             folder: folder.copy(alloc)?,
-            text: Vec::new(alloc),
-            sizes: Vec::new(alloc),
+            text: Vec::with_capacity(alloc, room)?,
+            sizes: Vec::with_capacity(alloc, room / 12)?,
             flushes: 0,
             runs,
         })

@@ -44,6 +44,7 @@ fn paths_have_parts_of_five_digits_and_tasks_of_six(rt: HostRuntime) -> Result<(
     let alloc = rt.alloc();
     let job = folder(&rt, alloc)?;
     let map = attempt_of(folder(&rt, alloc)?, Phase::Map, 524287);
+    let combine = attempt_of(folder(&rt, alloc)?, Phase::Combine, 20);
     let reduce = attempt_of(folder(&rt, alloc)?, Phase::Reduce, 63);
     let cases = [
         (part_path(alloc, &job, 63)?, b"/f/part-00063".as_slice()),
@@ -52,12 +53,20 @@ fn paths_have_parts_of_five_digits_and_tasks_of_six(rt: HostRuntime) -> Result<(
             b"/f/_temporary/attempt-m-524287-3/out",
         ),
         (
+            attempt_output(alloc, &job, &combine)?,
+            b"/f/_temporary/attempt-c-000020-3/out",
+        ),
+        (
             attempt_output(alloc, &job, &reduce)?,
             b"/f/_temporary/attempt-r-000063-3/part-00063",
         ),
         (
             task_output(alloc, &job, Phase::Map, 7)?,
             b"/f/_temporary/task-m-000007/out",
+        ),
+        (
+            task_output(alloc, &job, Phase::Combine, 1)?,
+            b"/f/_temporary/task-c-000001/out",
         ),
         (
             task_input(alloc, &job, Phase::Map, 524287)?,
