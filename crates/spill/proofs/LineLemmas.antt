@@ -106,14 +106,15 @@ decided_by_texts one other a b f g p q order has also is_p is_q is equal short =
     let long : length (key_of one) ≡ length (key_of other) = omega (arith, is_a, is_b, same, short) in
     ap (λ (t : List ℕ). bytes_cmp t other) (sym has.whole) ∙ ap (bytes_cmp (pair_text (key_of one) (value_of one))) (sym also.whole) ∙ texts_cmp (key_of one) (key_of other) (value_of one) (value_of other) long ∙ ap (λ (r : Pair). pair_cmp r (pair_of other)) is_p ∙ ap (pair_cmp p) is_q
 
-drop_behind : (key value : List ℕ) → drop (length key + 1) (pair_text key value) ≡ value
+drop_behind : (key value : List ℕ) → drop (suc (length key)) (pair_text key value) ≡ value
 drop_behind [] value = refl
 drop_behind (k ∷ key) value = drop_behind key value
 
 -- the value of a line stands behind its key and the TAB
 pub value_behind : (text : List ℕ) (key : ℕ) → key ≡ length (key_of text) → pair_text (key_of text) (value_of text) ≡ text → drop (key + 1) text ≡ value_of text
 value_behind text key is whole =
-    ap (drop (key + 1)) (sym whole) ∙ ap (λ (n : ℕ). drop (n + 1) (pair_text (key_of text) (value_of text))) is ∙ drop_behind (key_of text) (value_of text)
+    let more : key + 1 ≡ suc (length (key_of text)) = omega (arith, is) in
+    ap (λ (n : ℕ). drop n text) more ∙ ap (drop (suc (length (key_of text)))) (sym whole) ∙ drop_behind (key_of text) (value_of text)
 
 same_default : (xs : List ℕ) (k a b : ℕ) → k < length xs → get_or xs k a ≡ get_or xs k b
 same_default [] k a b inside = absurd (omega arith)

@@ -1,5 +1,5 @@
-use Rattle.std.proofs.Common.{◌≡◌, ◌+◌, ◌*◌, get_or, arith, rules}
-use Rattle.pairs.proofs.PrefixLemmas.{room, number_more, fits_more}
+use Rattle.std.proofs.Common.{arith}
+use Rattle.pairs.proofs.PrefixLemmas.{room}
 use Rattle.spill.proofs.line.front_of.Goals as goal
 
 pub overflow_mul-number : goal.overflow_mul-number
