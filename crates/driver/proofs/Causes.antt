@@ -1,12 +1,12 @@
 -- How a run opens its work folder, from what its calls answer.
-use Rattle.std.proofs.Common.{◌≡◌, true, ℕ, ◌<◌, List, [], IfSome, None, Some, inl, inr, refl, sym, ◌∙◌, ap, subst, arith}
+use Rattle.std.proofs.Common.{◌≡◌, true, ℕ, List, IfSome, None, Some, inl, inr, refl, sym, ◌∙◌, ap, subst, arith}
 use Rattle.std.specs.Result.{IsErrAnd}
 use Rattle.std.specs.Prelude.{IfErr, IsSome, Option, Result, Ok, Err}
 use Rattle.peg_base.specs.Names.{Names}
 use Rattle.dir_disk.specs.Calls.{HasFile}
-use Rattle.dir_disk.specs.Moments.{Both, Through, Told, files}
+use Rattle.dir_disk.specs.Moments.{Told, files}
 use Rattle.dir_disk.specs.State.{Content, Held, IsSound, State, bytes_at, bytes_of}
-use Rattle.committer.specs.Folders.{IsUnmarked, fixed}
+use Rattle.committer.specs.Folders.{IsUnmarked}
 use Rattle.committer.specs.Paths.{part_of, success_of}
 use Rattle.edge_text.specs.Edges.{Reading, edges_of}
 use Rattle.conf.specs.declared.reading.Conf.{Conf as Settings}
@@ -25,8 +25,7 @@ use Rattle.mining.specs.declared.stop.Stop.{Stop}
 use Rattle.mining.specs.declared.stop.Stop.TheVariants.{TaskFailed, BadStore, BadEdge, BigNode, TooLarge, OtherJob, OtherEdges, Disk, Read, Say, NoMemory}
 use Rattle.mining.specs.Stops.{IsOfDisk, IsOfJobs, IsOfMining, of_ingest, of_store}
 use Rattle.driver.specs.declared.outcome.Outcome.{Outcome}
-use Rattle.driver.specs.declared.outcome.Outcome.TheVariants.{Done}
-use Rattle.driver.specs.Causes.{Found, IsOpened, IsOpenedOver, IsTakenOver, LacksEdges, found_in, outcome_of}
+use Rattle.driver.specs.Causes.{Found, IsOpened, IsOpenedOver, IsTakenOver, found_in, outcome_of}
 use Rattle.driver.specs.Headline.{Asks}
 use Rattle.driver.specs.Running.{bytes_for}
 use Rattle.conf.specs.Commands.{is_mining}

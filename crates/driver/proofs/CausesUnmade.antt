@@ -1,5 +1,5 @@
 -- A run that refuses its settings or its edges makes no folder.
-use Rattle.std.proofs.Common.{◌≡◌, ◌≢◌, [], ◌∷◌, None, ⊎_elim, refl, sym, ◌∙◌, ap, subst}
+use Rattle.std.proofs.Common.{◌≡◌, [], ◌∷◌, ⊎_elim, sym, ◌∙◌, subst}
 use Rattle.std.specs.Result.{IsErrAnd}
 use Rattle.std.specs.Prelude.{IfErr, Result, Ok, Err}
 use Rattle.peg_base.specs.Names.{Names}
@@ -18,7 +18,7 @@ use Rattle.mining.specs.Places.{folder_of, IsInTable}
 use Rattle.mining.specs.declared.stop.Stop.{Stop}
 use Rattle.mining.specs.declared.stop.Stop.TheVariants.{TaskFailed, BadStore, BadEdge, BigNode, TooLarge, OtherJob, OtherEdges, Disk, Read, Say, NoMemory}
 use Rattle.mining.specs.Stops.{IsOfDisk, IsOfJobs, IsOfMining, of_ingest}
-use Rattle.mining.proofs.Names.{AreApart, same_or_apart}
+use Rattle.mining.proofs.Names.{same_or_apart}
 use Rattle.driver.specs.Causes.{IsRefusal, MakesNone, outcome_of}
 use Rattle.driver.specs.Opening.{IsSettled}
 use Rattle.driver.specs.Outcomes.{outcome_of_stop}

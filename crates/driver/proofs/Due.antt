@@ -29,7 +29,7 @@ pub edges_not_conf : Edges ≡ Conf → ⊥
 unfolding rank_of
 edges_not_conf is = let ranks = ap rank_of is in omega (arith, ranks)
 
-nodes_not_conf : Nodes ≡ Conf → ⊥
+pub nodes_not_conf : Nodes ≡ Conf → ⊥
 unfolding rank_of
 nodes_not_conf is = let ranks = ap rank_of is in omega (arith, ranks)
 

@@ -1,8 +1,8 @@
 -- What is kept, said and done is that of the plain iteration, where the children are the bundled ones.
-use Rattle.std.proofs.Common.{◌≡◌, sym, ◌∙◌, ap, subst, ℕ, List, Option, Some, inr}
+use Rattle.std.proofs.Common.{◌≡◌, ◌≢◌, sym, ◌∙◌, ap, subst, ℕ, List, Option, Some, inr}
 use Rattle.std.specs.Prelude.{IfSome, unwrap_or}
 use Rattle.dir_disk.specs.Moments.{EachImage, Through, Told, files}
-use Rattle.dir_disk.specs.State.{Fits, FitsEither, Image, State}
+use Rattle.dir_disk.specs.State.{IsSound}
 use Rattle.dir_disk.specs.Streams.{AddsPart, added}
 use Rattle.dir_disk.proofs.Through.{at_end, weaker}
 use Rattle.graph.specs.declared.edges.Edge.{Edge}
@@ -12,13 +12,14 @@ use Rattle.conf.specs.declared.reading.Conf.{Conf as Settings}
 use Rattle.committer.specs.Paths.{success_of}
 use Rattle.mining.specs.declared.place.Place.TheVariants.{Results}
 use Rattle.mining.specs.Places.{folder_of}
-use Rattle.mining.specs.Flow.{Mining, last_of, mining_of, most_of}
+use Rattle.mining.specs.Flow.{last_of, mining_of, most_of}
 use Rattle.mining.specs.Iterations.{console}
 use Rattle.mining.specs.Kept.{AllKept, Kept}
 use Rattle.flow.specs.Children.{FollowsChildren}
 use Rattle.flow.specs.Held.{HoldsIterates, iterates_console}
-use Rattle.flow.specs.Iterates.{IsBaseRun, IsLast, changed_of}
+use Rattle.flow.specs.Iterates.{IsBaseRun, IsLast, changed_of, total_after}
 use Rattle.flow.specs.Laws.{AreCountable}
+use Rattle.flow.proofs.Base.{command_sequence}
 use Rattle.flow.proofs.Ends.{base_result}
 use Rattle.flow.proofs.Files.{file_edges_are_countable}
 use Rattle.flow.proofs.Held.{console_is_of_iterates, kept_holds_iterates, kept_holds_result}
@@ -26,7 +27,11 @@ use Rattle.driver.specs.Headline.{Asks, HasWritten, WhereverItStops}
 use Rattle.driver.specs.Opening.{HasRun, IsFrom}
 use Rattle.driver.specs.Running.{bytes_for}
 use Rattle.driver.specs.declared.outcome.Outcome.{Outcome}
-use Rattle.driver.specs.declared.outcome.Outcome.TheVariants.{Done}
+use Rattle.driver.specs.declared.outcome.Outcome.TheVariants.{BadStore, Done}
+use Rattle.mining.specs.Stored.{IsNotAsMade}
+use Rattle.mining.proofs.EnsureLemmas.{kept_after}
+use Rattle.mining.proofs.StoredKept.{none_bad}
+use Rattle.peg_base.specs.Names.{Names}
 use Rattle.driver.proofs.RunLemmas.{DoneFor, KeptFor, SaidFor}
 
 -- ---- what was shown for the bytes that are read
@@ -79,3 +84,10 @@ module _ (gives : List (List ℕ) → List ℕ → List ℕ) (tells : Type 0) (d
           said = done.said ∙ ap (λ (text : List ℕ). added before text) ((console_is_of_iterates gives children conf run accepted good done.last first).1 k);
           held = λ image fits. kept_holds_result gives children conf run accepted good image (all image fits) (done.result (image mark) (fits mark));
         }
+
+    -- where what the bundled children wrote is kept, no place of it is bad
+    pub unblamed_asked : IsSound (files f) → AllKept (mining_of gives conf accepted) (files d) → Through (EachImage (Kept (mining_of gives conf accepted))) d f → (path : Names) (line : ℕ) → (result ≡ BadStore path line → IsNotAsMade conf (files f) path line) → result ≢ BadStore path line
+    unblamed_asked sound kept through path line stored is =
+        let has = base_result gives children conf run accepted good in
+        let counts = command_sequence gives children conf run accepted good in
+        none_bad (mining_of gives conf accepted) (files f) sound (kept_after (mining_of gives conf accepted) d f kept through) has.last has.is_last (changed_of conf accepted) counts.count (total_after conf accepted has.last) has.total path line (stored is)

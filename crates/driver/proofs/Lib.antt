@@ -14,3 +14,4 @@ pub mod Headline
 pub mod Causes
 pub mod CausesUnmade
 pub mod Logging
+pub mod Stored

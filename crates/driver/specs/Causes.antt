@@ -1,5 +1,5 @@
 -- Why a run refuses what it is given, by what it reads and what its work folder has at entry.
-use Rattle.std.specs.Prelude.{◌≡◌, ◌≢◌, ◌⊎◌, ℕ, ⊤, List, Option, Some, None, IsSome, Result, Ok, Err}
+use Rattle.std.specs.Prelude.{◌≡◌, ◌≢◌, ◌⊎◌, ℕ, ⊤, List, Some, None, IsSome, Result, Ok, Err}
 use Rattle.peg_base.specs.Names.{Names}
 use Rattle.dir_disk.specs.State.{Content, State}
 use Rattle.committer.specs.Folders.{IsUnmarked}

@@ -24,6 +24,8 @@ ghost use Rattle.driver.specs.Opening.{HasRun, HasVectors, IsFrom, StaysOne};
 ghost use Rattle.driver.specs.Plain.{Labels};
 ghost use Rattle.driver.specs.Running.{IsUnmade, bytes_for};
 ghost use Rattle.driver.specs.Causes.{IsOpened, IsRefusal, MakesNone};
+ghost use Rattle.mining.specs.Stored.{IsNotAsMade};
+ghost use Rattle.peg_base.specs.Names.{Names};
 
 use crate::Outcome;
 use crate::running::carry_out;
@@ -113,6 +115,18 @@ pub fn run<E: Source, S: Site>(
     // Such a refusal starts no child, and makes no folder but `conf`.
     ensures unmade { S.tells → IsRefusal result → MakesNone (files (S.told site.old)) (files (S.told site.new)) }
     ensures unstarted { IsRefusal result → S.seen site.new ≡ S.seen site.old }
+
+    // Whatever the children write, a place that is named as bad isn't as it was made: a part of a whole folder isn't
+    // there, or this is its first record that isn't of the folder's grammar, or the first that counts a change in the
+    // last iteration that there can be of components.
+    ensures stored { (conf : Settings) (path : Names) (line : ℕ) → Mean (map string_bytes words.now) conf
+        → S.tells → result ≡ Outcome.BadStore path line
+        → IsNotAsMade conf (files (S.told site.new)) path line }
+    // Where the children are the bundled ones and each image at entry is kept, none is named.
+    ensures unblamed { (conf : Settings) (accepted : List Edge) (path : Names) (line : ℕ)
+        → Asks (map string_bytes words.now) (E.left edges.old) conf accepted
+        → S.tells → FollowsChildren S.gives → AllKept (mining_of S.gives conf accepted) (files (S.told site.old))
+        → result ≢ Outcome.BadStore path line }
 
     // A fault is answered only where its count rose, and at any other answer a count stands.
     ensures disk { result ≡ Outcome.DiskFault → Rose (S.faults site.old) (S.faults site.new) }

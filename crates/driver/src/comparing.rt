@@ -10,6 +10,8 @@ ghost use Rattle.mining.specs.Places.{folder_of};
 ghost use Rattle.mining.specs.Failures.{IsOfNoTask};
 ghost use Rattle.driver.specs.Opening.{IsJudgedJob, mark_of};
 ghost use Rattle.driver.specs.Causes.{IsOpened, found_in, outcome_of};
+ghost use Rattle.mining.specs.Between.{IsSure};
+ghost use Rattle.mining.specs.Stored.{IfBadStore, IsNotAsMade};
 
 use committer::part_path;
 use conf::{Conf, conf_text};
@@ -91,6 +93,8 @@ pub fn check_source<E: Source, S: Site>(
     ensures cause { HasCause Stop.Disk (S.faults site.old) (S.faults site.new) result }
     ensures read { HasCause Stop.Read (E.faults edges.old) (E.faults edges.new) result }
     ensures no_say { ¬ IsErrOf result Stop.Say }
+    ensures stored { S.tells → IsSure At.Edges (files (S.told site.old))
+        → IfErr result (IfBadStore (IsNotAsMade conf.now (files (S.told site.new)))) }
 {
     let folder = Place::Edges.path(alloc)?;
     if let Some(path) = missing_part(alloc, site, &folder, 1)? {
@@ -125,6 +129,8 @@ pub fn check_job<E: Source, S: Site>(
     ensures cause { HasCause Stop.Disk (S.faults site.old) (S.faults site.new) result }
     ensures read { HasCause Stop.Read (E.faults edges.old) (E.faults edges.new) result }
     ensures no_say { ¬ IsErrOf result Stop.Say }
+    ensures stored { S.tells → IsSure At.Edges (files (S.told site.old))
+        → IfErr result (IfBadStore (IsNotAsMade conf.now (files (S.told site.new)))) }
 {
     check_conf(alloc, site, conf)?;
     check_source(alloc, site, conf, edges)

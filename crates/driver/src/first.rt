@@ -17,6 +17,7 @@ ghost use Rattle.mining.specs.Jobs.{rank_after, rank_from, rank_of_base};
 ghost use Rattle.job.specs.Failing.{gained};
 ghost use Rattle.driver.specs.Logged.{RunsJobs};
 ghost use Rattle.driver.specs.Opening.{StandsLater};
+ghost use Rattle.mining.specs.Stored.{IfBadStore, IsNoBadStore, IsNotAsMade};
 
 use conf::Conf;
 use dir_disk::Site;
@@ -41,6 +42,7 @@ fn begin_nodes<S: Site>(alloc: Global, site: &mut S, conf: &Conf) -> Result<(), 
     ensures say_faults { S.say_faults site.new ≡ S.say_faults site.old }
     ensures cause { HasCause Stop.Disk (S.faults site.old) (S.faults site.new) result }
     ensures err { IfErr result IsOfJobs }
+    ensures no_store { IfErr result IsNoBadStore }
 {
     let folder = Place::Nodes.path(alloc)?;
     write_nodes(alloc, site, &folder, conf.nodes)?;
@@ -68,6 +70,7 @@ fn make_nodes<S: Site>(alloc: Global, site: &mut S, conf: &Conf) -> Result<(), S
     ensures say_faults { S.say_faults site.new ≡ S.say_faults site.old }
     ensures cause { HasCause Stop.Disk (S.faults site.old) (S.faults site.new) result }
     ensures err { IfErr result IsOfJobs }
+    ensures no_store { IfErr result IsNoBadStore }
 {
     if has(alloc, site, Place::Nodes)? {
         return Ok(());
@@ -97,6 +100,9 @@ fn make_matrix<S: Site>(alloc: Global, site: &mut S, conf: &Conf) -> Result<(), 
     ensures say_faults { S.say_faults site.new ≡ S.say_faults site.old }
     ensures cause { HasCause Stop.Disk (S.faults site.old) (S.faults site.new) result }
     ensures err { IfErr result IsOfJobs }
+    ensures nodes { S.tells → OnOk result (IsSure At.Nodes (files (S.told site.new))) }
+    ensures stored { S.tells → conf.now.form ≡ Base → IsSure At.Edges (files (S.told site.old))
+        → IfErr result (IfBadStore (IsNotAsMade conf.now (files (S.told site.new)))) }
 {
     make_nodes(alloc, site, conf)?;
     ensure_folder(alloc, site, conf, 0, Place::Matrix)
@@ -128,6 +134,9 @@ pub fn make_base<S: Site>(alloc: Global, site: &mut S, conf: &Conf) -> Result<()
     ensures say_faults { S.say_faults site.new ≡ S.say_faults site.old }
     ensures cause { HasCause Stop.Disk (S.faults site.old) (S.faults site.new) result }
     ensures err { IfErr result IsOfJobs }
+    ensures matrix { S.tells → OnOk result (IsSure At.Matrix (files (S.told site.new))) }
+    ensures stored { S.tells → conf.now.form ≡ Base → IsSure At.Edges (files (S.told site.old))
+        → IfErr result (IfBadStore (IsNotAsMade conf.now (files (S.told site.new)))) }
 {
     make_matrix(alloc, site, conf)?;
     ensure_folder(alloc, site, conf, 0, Place::Vector(0))

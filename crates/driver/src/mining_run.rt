@@ -22,6 +22,7 @@ ghost use Rattle.mining.specs.Failures.{TellsOfAnswer};
 ghost use Rattle.mining.specs.Jobs.{rank_after, rank_behind, rank_from, rank_of_base};
 ghost use Rattle.job.specs.Failing.{gained};
 ghost use Rattle.driver.specs.Logged.{LogsRun, RunsJobs};
+ghost use Rattle.mining.specs.Stored.{IfBadStore, IsNotAsMade};
 
 use crate::first::make_base;
 use crate::opening::take_job;
@@ -70,6 +71,9 @@ fn make_ready<E: Source, S: Site>(
     ensures no_say { ¬ IsErrOf result Stop.Say }
     ensures stays { S.tells
         → Through (Both (KeepsFinished (files (S.told site.old)))) (S.told site.old) (S.told site.new) }
+    ensures matrix { S.tells → OnOk result (IsSure At.Matrix (files (S.told site.new))) }
+    ensures stored { S.tells → conf.now.form ≡ Base
+        → IfErr result (IfBadStore (IsNotAsMade conf.now (files (S.told site.new)))) }
 {
     take_job(alloc, site, conf, edges)?;
     make_base(alloc, site, conf)
@@ -110,6 +114,8 @@ fn go_on<S: Site>(alloc: Global, site: &mut S, conf: &Conf, had_first: bool) -> 
     ensures err { IfErr result IsOfMining }
     ensures stays { S.tells
         → Through (Both (KeepsFinished (files (S.told site.old)))) (S.told site.old) (S.told site.new) }
+    ensures stored { S.tells → conf.now.form ≡ Base → IsSure At.Matrix (files (S.told site.old))
+        → IfErr result (IfBadStore (IsNotAsMade conf.now (files (S.told site.new)))) }
 {
     let from = start(alloc, site, conf, had_first)?;
     mine_on(alloc, site, conf, from)
@@ -155,6 +161,8 @@ fn mine_settled<E: Source, S: Site>(
     ensures read { HasCause Stop.Read (E.faults edges.old) (E.faults edges.new) result }
     ensures stays { S.tells
         → Through (Both (KeepsFinished (files (S.told site.old)))) (S.told site.old) (S.told site.new) }
+    ensures stored { S.tells → conf.now.form ≡ Base
+        → IfErr result (IfBadStore (IsNotAsMade conf.now (files (S.told site.new)))) }
 {
     let had_first = has(alloc, site, Place::Vector(0))?;
     make_ready(alloc, site, conf, edges)?;
@@ -209,6 +217,9 @@ pub fn mine<E: Source, S: Site>(
     ensures read { HasCause Stop.Read (E.faults edges.old) (E.faults edges.new) result }
     // What is whole with the same bytes in each image stays so.
     ensures stays { S.tells → StaysOne (files (S.told site.old)) (files (S.told site.new)) }
+    // A place that is named as bad isn't as it was made.
+    ensures stored { S.tells → conf.now.form ≡ Base
+        → IfErr result (IfBadStore (IsNotAsMade conf.now (files (S.told site.new)))) }
 {
     settle_all(alloc, site)?;
     mine_settled(alloc, site, conf, edges)

@@ -20,6 +20,7 @@ ghost use Rattle.mining.specs.Failures.{IsOfNoTask};
 ghost use Rattle.driver.specs.Causes.{IsOpened, IsRefusal, MakesNone, outcome_of};
 ghost use Rattle.driver.specs.Opening.{mark_of};
 ghost use Rattle.dir_disk.specs.State.{State};
+ghost use Rattle.mining.specs.Stored.{IfBadStore, IsNoBadStore, IsNotAsMade};
 
 use crate::comparing::check_job;
 use committer::drop_folder;
@@ -110,6 +111,7 @@ fn make_edges<E: Source, S: Site>(
     ensures cause { HasCause Stop.Disk (S.faults site.old) (S.faults site.new) result }
     ensures read { HasCause Stop.Read (E.faults edges.old) (E.faults edges.new) result }
     ensures no_say { ¬ IsErrOf result Stop.Say }
+    ensures no_store { IfErr result IsNoBadStore }
 {
     let folder = Place::Edges.path(alloc)?;
     write_edges(alloc, conf.nodes, edges, site, &folder)?;
@@ -150,6 +152,7 @@ fn begin_job<E: Source, S: Site>(
     ensures no_say { ¬ IsErrOf result Stop.Say }
     ensures stays { S.tells
         → Through (Both (KeepsFinished (files (S.told site.old)))) (S.told site.old) (S.told site.new) }
+    ensures no_store { IfErr result IsNoBadStore }
 {
     make_conf(alloc, site, conf)?;
     make_edges(alloc, site, conf, edges)
@@ -188,6 +191,8 @@ pub fn take_job<E: Source, S: Site>(
     ensures no_say { ¬ IsErrOf result Stop.Say }
     ensures stays { S.tells
         → Through (Both (KeepsFinished (files (S.told site.old)))) (S.told site.old) (S.told site.new) }
+    ensures stored { S.tells
+        → IfErr result (IfBadStore (IsNotAsMade conf.now (files (S.told site.new)))) }
 {
     if has(alloc, site, Place::Edges)? {
         check_job(alloc, site, conf, edges)

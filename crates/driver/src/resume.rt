@@ -19,6 +19,7 @@ ghost use Rattle.mining.specs.Iterations.{IsAt, line_at};
 ghost use Rattle.mining.specs.Stops.{IsOfJobs, IsOfMining};
 ghost use Rattle.mining.specs.Failures.{IsOfNoTask};
 ghost use Rattle.driver.specs.Opening.{IsFromThere, IsGreatest, from_text, mark_of};
+ghost use Rattle.mining.specs.Stored.{IfBadStore, IsNoBadStore, IsNotAsMade};
 
 use conf::{Command, Conf};
 use dir_disk::Site;
@@ -49,6 +50,7 @@ fn goes_further<S: Site>(alloc: Global, site: &mut S, k: u32, most: u32) -> Resu
     ensures say_faults { S.say_faults site.new ≡ S.say_faults site.old }
     ensures cause { HasCause Stop.Disk (S.faults site.old) (S.faults site.new) result }
     ensures err { IfErr result IsOfJobs }
+    ensures no_store { IfErr result IsNoBadStore }
 {
     if k < most {
         has(alloc, site, Place::Vector(k + 1))
@@ -81,6 +83,7 @@ fn reached<S: Site>(alloc: Global, site: &mut S, most: u32) -> Result<u32, Stop>
     ensures say_faults { S.say_faults site.new ≡ S.say_faults site.old }
     ensures cause { HasCause Stop.Disk (S.faults site.old) (S.faults site.new) result }
     ensures err { IfErr result IsOfJobs }
+    ensures no_store { IfErr result IsNoBadStore }
 {
     let mut k = 0;
     while goes_further(alloc, site, k, most)? {
@@ -108,6 +111,8 @@ fn read_count<S: Site>(alloc: Global, site: &mut S, conf: &Conf, k: u32) -> Resu
     ensures say_faults { S.say_faults site.new ≡ S.say_faults site.old }
     ensures cause { HasCause Stop.Disk (S.faults site.old) (S.faults site.new) result }
     ensures err { IfErr result IsOfJobs }
+    ensures stored { S.tells → IsSure (At.Vector k) (files (S.told site.old))
+        → IfErr result (IfBadStore (IsNotAsMade conf.now (files (S.told site.new)))) }
 {
     match conf.command {
         Command::Plain | Command::PageRank => Ok(1),
@@ -141,6 +146,8 @@ fn take_up<S: Site>(alloc: Global, site: &mut S, conf: &Conf, k: u32) -> Result<
     ensures say_faults { S.say_faults site.new ≡ S.say_faults site.old }
     ensures cause { HasCause Stop.Disk (S.faults site.old) (S.faults site.new) result }
     ensures err { IfErr result IsOfJobs }
+    ensures stored { S.tells → IsSure (At.Vector k) (files (S.told site.old))
+        → IfErr result (IfBadStore (IsNotAsMade conf.now (files (S.told site.new)))) }
 {
     let changed = read_count(alloc, site, conf, k)?;
     drop_messages(alloc, site, k)?;
@@ -172,6 +179,8 @@ fn take_up_any<S: Site>(alloc: Global, site: &mut S, conf: &Conf, k: u32) -> Res
     ensures say_faults { S.say_faults site.new ≡ S.say_faults site.old }
     ensures cause { HasCause Stop.Disk (S.faults site.old) (S.faults site.new) result }
     ensures err { IfErr result IsOfJobs }
+    ensures stored { S.tells → IsSure (At.Vector k) (files (S.told site.old))
+        → IfErr result (IfBadStore (IsNotAsMade conf.now (files (S.told site.new)))) }
 {
     if k == 0 {
         return Ok(Reached { k, changed: 1 });
@@ -208,6 +217,8 @@ fn resume<S: Site>(alloc: Global, site: &mut S, conf: &Conf, k: u32) -> Result<R
     ensures cause { HasCause Stop.Disk (S.faults site.old) (S.faults site.new) result }
     ensures say_cause { HasCause Stop.Say (S.say_faults site.old) (S.say_faults site.new) result }
     ensures err { IfErr result IsOfMining }
+    ensures stored { S.tells → IsSure (At.Vector k) (files (S.told site.old))
+        → IfErr result (IfBadStore (IsNotAsMade conf.now (files (S.told site.new)))) }
 {
     say_resumed(alloc, site, k)?;
     take_up_any(alloc, site, conf, k)
@@ -238,6 +249,8 @@ fn begin<S: Site>(alloc: Global, site: &mut S, conf: &Conf) -> Result<Reached, S
     ensures cause { HasCause Stop.Disk (S.faults site.old) (S.faults site.new) result }
     ensures say_cause { HasCause Stop.Say (S.say_faults site.old) (S.say_faults site.new) result }
     ensures err { IfErr result IsOfMining }
+    ensures stored { S.tells → IsSure (At.Vector 0) (files (S.told site.old))
+        → IfErr result (IfBadStore (IsNotAsMade conf.now (files (S.told site.new)))) }
 {
     let changed = count_changed(alloc, site, conf, 0)?;
     say_iteration(alloc, site, 0, changed)?;
@@ -279,6 +292,8 @@ fn after_first<S: Site>(
     ensures say_faults { S.say_faults site.new ≡ S.say_faults site.old }
     ensures cause { HasCause Stop.Disk (S.faults site.old) (S.faults site.new) result }
     ensures err { IfErr result IsOfJobs }
+    ensures stored { S.tells
+        → IfErr result (IfBadStore (IsNotAsMade conf.now (files (S.told site.new)))) }
 {
     let k = reached(alloc, site, most_of(conf))?;
     if k == 0 {
@@ -322,6 +337,8 @@ fn start_afresh<S: Site>(alloc: Global, site: &mut S, conf: &Conf) -> Result<Rea
     ensures cause { HasCause Stop.Disk (S.faults site.old) (S.faults site.new) result }
     ensures say_cause { HasCause Stop.Say (S.say_faults site.old) (S.say_faults site.new) result }
     ensures err { IfErr result IsOfMining }
+    ensures stored { S.tells
+        → IfErr result (IfBadStore (IsNotAsMade conf.now (files (S.told site.new)))) }
 {
     let first = begin(alloc, site, conf)?;
     after_first(alloc, site, conf, first)
@@ -361,6 +378,8 @@ fn start_again<S: Site>(alloc: Global, site: &mut S, conf: &Conf) -> Result<Reac
     ensures cause { HasCause Stop.Disk (S.faults site.old) (S.faults site.new) result }
     ensures say_cause { HasCause Stop.Say (S.say_faults site.old) (S.say_faults site.new) result }
     ensures err { IfErr result IsOfMining }
+    ensures stored { S.tells
+        → IfErr result (IfBadStore (IsNotAsMade conf.now (files (S.told site.new)))) }
 {
     let k = reached(alloc, site, most_of(conf))?;
     resume(alloc, site, conf, k)
@@ -411,6 +430,8 @@ pub fn start<S: Site>(
     ensures cause { HasCause Stop.Disk (S.faults site.old) (S.faults site.new) result }
     ensures say_cause { HasCause Stop.Say (S.say_faults site.old) (S.say_faults site.new) result }
     ensures err { IfErr result IsOfMining }
+    ensures stored { S.tells
+        → IfErr result (IfBadStore (IsNotAsMade conf.now (files (S.told site.new)))) }
 {
     if had_first {
         start_again(alloc, site, conf)

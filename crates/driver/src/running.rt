@@ -22,6 +22,8 @@ ghost use Rattle.driver.specs.Running.{IsUnmade, bytes_for};
 ghost use Rattle.driver.specs.Causes.{IsOpened, IsRefusal, MakesNone};
 ghost use Rattle.driver.specs.Logged.{LogsRun, TellsOfOutcome};
 ghost use Rattle.job.specs.Failing.{gained};
+ghost use Rattle.mining.specs.Stored.{IsNotAsMade};
+ghost use Rattle.peg_base.specs.Names.{Names};
 
 use crate::Outcome;
 use crate::mining_run::mine;
@@ -88,6 +90,8 @@ fn run_mining<E: Source, S: Site>(
         → IsFrom (most_of conf.now conf.now.command) (files (S.told site.old)) k → last_of mining ≡ Some l
         → AddsPart (S.said site.old) (S.said site.new) (console mining k l)) }
     ensures stays { S.tells → StaysOne (files (S.told site.old)) (files (S.told site.new)) }
+    ensures stored { (path : Names) (line : ℕ) → S.tells → conf.now.form ≡ Base
+        → result ≡ Outcome.BadStore path line → IsNotAsMade conf.now (files (S.told site.new)) path line }
 {
     match mine(alloc, site, conf, edges) {
         Ok(()) => Outcome::Done,
@@ -137,6 +141,8 @@ fn run_over<E: Source, S: Site>(alloc: Global, conf: &Conf, edges: &mut E, site:
         → IsFrom (most_of conf.now conf.now.command) (files (S.told site.old)) k → last_of mining ≡ Some l
         → AddsPart (S.said site.old) (S.said site.new) (console mining k l)) }
     ensures stays { S.tells → StaysOne (files (S.told site.old)) (files (S.told site.new)) }
+    ensures stored { (path : Names) (line : ℕ) → S.tells → conf.now.form ≡ Base
+        → result ≡ Outcome.BadStore path line → IsNotAsMade conf.now (files (S.told site.new)) path line }
 {
     match conf.command {
         Command::Plain => label_nodes(alloc, conf.nodes, edges, site),
@@ -225,6 +231,11 @@ pub fn carry_out<E: Source, S: Site>(
 
     // What is whole with the same bytes in each image stays so.
     ensures stays { S.tells → StaysOne (files (S.told site.old)) (files (S.told site.new)) }
+
+    // A place that is named as bad isn't as it was made.
+    ensures stored { (conf : Settings) (path : Names) (line : ℕ) → Mean (map string_bytes words.now) conf
+        → S.tells → result ≡ Outcome.BadStore path line
+        → IsNotAsMade conf (files (S.told site.new)) path line }
 {
     meanings_are_within_limits();
     let conf = match read_words(words) {

@@ -1,6 +1,6 @@
-use Rattle.std.proofs.Common.{List, ℕ, map}
+use Rattle.std.proofs.Common.{map}
 use Rattle.std.specs.String.{string_bytes}
-use Rattle.driver.proofs.Headline.{console_asked, done_asked, iterates_asked, kept_asked, said_asked, written_asked}
+use Rattle.driver.proofs.Headline.{console_asked, done_asked, iterates_asked, kept_asked, said_asked, unblamed_asked, written_asked}
 use Rattle.driver.proofs.Causes.{opened_asked}
 use Rattle.driver.proofs.commands.run.Goals as goal
 
@@ -35,3 +35,8 @@ returns-clause-written g c =
     λ conf accepted k asks told children kept from is. written_asked g.S.Site.gives g.S.Dir.tells (g.S.Dir.told c.args.site.now) (g.S.Dir.told c.carry_out.new.site) (g.S.Console.said c.args.site.now) (g.S.Console.said c.carry_out.new.site) c.carry_out.result (map string_bytes c.args.words.now) (g.E.Source.left c.args.edges.now) conf accepted asks children (c.meanings_are_within_limits.ensures _ _ asks.mean) k kept
     (kept_asked g.S.Site.gives g.S.Dir.tells (g.S.Dir.told c.args.site.now) (g.S.Dir.told c.carry_out.new.site) (g.S.Console.said c.args.site.now) (g.S.Console.said c.carry_out.new.site) c.carry_out.result (map string_bytes c.args.words.now) (g.E.Source.left c.args.edges.now) conf accepted asks (c.carry_out.ensures.kept conf asks.mean) told kept)
     (done_asked g.S.Site.gives g.S.Dir.tells (g.S.Dir.told c.args.site.now) (g.S.Dir.told c.carry_out.new.site) (g.S.Console.said c.args.site.now) (g.S.Console.said c.carry_out.new.site) c.carry_out.result (map string_bytes c.args.words.now) (g.E.Source.left c.args.edges.now) conf accepted asks (c.carry_out.ensures.done conf asks.mean) k told kept from is)
+
+pub returns-clause-unblamed : goal.returns-clause-unblamed
+returns-clause-unblamed g c =
+    λ conf accepted path line asks told children kept. unblamed_asked g.S.Site.gives g.S.Dir.tells (g.S.Dir.told c.args.site.now) (g.S.Dir.told c.carry_out.new.site) (g.S.Console.said c.args.site.now) (g.S.Console.said c.carry_out.new.site) c.carry_out.result (map string_bytes c.args.words.now) (g.E.Source.left c.args.edges.now) conf accepted asks children (c.meanings_are_within_limits.ensures _ _ asks.mean) (λ q. g.met.S.Dir.now_allowed c.carry_out.new.site q told) kept
+    (kept_asked g.S.Site.gives g.S.Dir.tells (g.S.Dir.told c.args.site.now) (g.S.Dir.told c.carry_out.new.site) (g.S.Console.said c.args.site.now) (g.S.Console.said c.carry_out.new.site) c.carry_out.result (map string_bytes c.args.words.now) (g.E.Source.left c.args.edges.now) conf accepted asks (c.carry_out.ensures.kept conf asks.mean) told kept) path line (c.carry_out.ensures.stored conf path line asks.mean told)

@@ -13,6 +13,10 @@ use Rattle.driver.proofs.Begin.{both_told}
 use Rattle.driver.proofs.Causes.{exits, of_settings, same_opened, same_settings}
 use Rattle.std.proofs.Common.{List, ℕ}
 use Rattle.driver.specs.declared.outcome.Outcome.{Outcome}
+use Rattle.mining.specs.Stored.{IsNotAsMade}
+use Rattle.mining.proofs.StoredLemmas.{err_is}
+use Rattle.driver.proofs.Stored.{judged_names_none}
+use Rattle.mining.specs.Between.{IsSure}
 use Rattle.driver.proofs.comparing.check_job.Goals as goal
 
 pub returns-in_err-check_conf-clause-opened : goal.returns-in_err-check_conf-clause-opened
@@ -29,3 +33,12 @@ returns-clause-opened g c =
 pub returns-clause-stands : goal.returns-clause-stands
 returns-clause-stands g c =
     λ tells. same_then (g.S.Dir.told c.args.site.now) (g.S.Dir.told c.check_conf.new.site) (g.S.Dir.told c.check_source.new.site) (c.check_conf.ensures.stands tells) (c.check_source.ensures.stands tells)
+
+pub returns-in_err-check_conf-clause-stored : goal.returns-in_err-check_conf-clause-stored
+returns-in_err-check_conf-clause-stored g c =
+    λ tells sure.
+    err_is (IsNotAsMade c.args.conf.now (files (g.S.Dir.told c.check_conf.new.site))) c.from_residual.result c.in_err-check_conf.field-0.0 c.from_residual.ensures.1 (judged_names_none (IsNotAsMade c.args.conf.now (files (g.S.Dir.told c.check_conf.new.site))) _ _ c.in_err-check_conf.field-0.0 (c.in_err-check_conf.ensures.judged tells))
+
+pub returns-clause-stored : goal.returns-clause-stored
+returns-clause-stored g c =
+    λ tells sure. c.check_source.ensures.stored tells (subst (IsSure Edges) (sym (same_state (g.S.Dir.told c.args.site.now) (g.S.Dir.told c.check_conf.new.site) (c.check_conf.ensures.stands tells))) sure)

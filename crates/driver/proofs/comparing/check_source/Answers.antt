@@ -23,6 +23,10 @@ use Rattle.std.proofs.Common.{List, ℕ}
 use Rattle.driver.specs.declared.outcome.Outcome.{Outcome}
 use Rattle.std.specs.Prelude.{IfSome, Option}
 use Rattle.store.specs.Parts.{IsFirstMissing}
+use Rattle.dir_disk.specs.Moments.{files}
+use Rattle.mining.specs.Stored.{IsNotAsMade}
+use Rattle.mining.proofs.StoredLemmas.{err_is}
+use Rattle.driver.proofs.Stored.{edges_lack, ingest_names_none, store_names_none}
 use Rattle.driver.proofs.comparing.check_source.Goals as goal
 
 pub returns-in_err-folder-clause-opened : goal.returns-in_err-folder-clause-opened
@@ -66,3 +70,21 @@ check_edges-requires-clause-there g c =
     let e : Told = g.S.Dir.told c.missing_part.new.dir in
     let all = c.in_ok-path.ensures.there tells c.in_default.not-Some in
     subst (λ (p : Names). HasFile (files e) p) (sym c.in_ok-part.ensures) (subst (λ (s : State). HasFile s (part_of c.in_ok-folder.folder 0)) (sym (same_state d e (c.missing_part.ensures.stands tells))) (all 0 (omega arith)))
+
+pub returns-in_err-path-clause-stored : goal.returns-in_err-path-clause-stored
+returns-in_err-path-clause-stored g c =
+    λ tells sure.
+    err_is (IsNotAsMade c.args.conf.now (files (g.S.Dir.told c.missing_part.new.dir))) c.from_residual-in_err-path.result (of_store c.in_err-path.field-0.0) c.from_residual-in_err-path.ensures.1 (store_names_none (IsNotAsMade c.args.conf.now (files (g.S.Dir.told c.missing_part.new.dir))) c.in_err-path.field-0.0)
+
+pub returns-in-Some-clause-stored : goal.returns-in-Some-clause-stored
+returns-in-Some-clause-stored g c =
+    λ tells sure.
+    let d : Told = g.S.Dir.told c.args.site.now in
+    let e : Told = g.S.Dir.told c.missing_part.new.dir in
+    let missing = subst (λ (f : Names). IsFirstMissing (files d) f 1 c.in-Some.path) c.in_ok-folder.ensures (subst (λ (found : Option Names). IfSome found (IsFirstMissing (files d) c.in_ok-folder.folder 1)) c.in-Some.is (c.in_ok-path.ensures.missing tells)) in
+    subst (λ (s : State). IsNotAsMade c.args.conf.now s c.in-Some.path 0) (sym (same_state d e (c.missing_part.ensures.stands tells))) (edges_lack c.args.conf.now (files d) c.in-Some.path sure missing)
+
+pub returns-in_err-check_edges-clause-stored : goal.returns-in_err-check_edges-clause-stored
+returns-in_err-check_edges-clause-stored g c =
+    λ tells sure.
+    err_is (IsNotAsMade c.args.conf.now (files (g.S.Dir.told c.check_edges.new.dir))) c.from_residual-in_err-check_edges.result (of_ingest c.in_err-check_edges.field-0.0) c.from_residual-in_err-check_edges.ensures.1 (ingest_names_none (IsNotAsMade c.args.conf.now (files (g.S.Dir.told c.check_edges.new.dir))) c.in_err-check_edges.field-0.0)

@@ -6,6 +6,9 @@ use Rattle.committer.specs.Folders.{IsUnmarked}
 use Rattle.mining.specs.declared.place.Place.TheVariants.{Nodes}
 use Rattle.store.specs.Sealed.{IsMade, Makes, nodes_text}
 use Rattle.driver.proofs.Settling.{open_top}
+use Rattle.mining.proofs.StoredLemmas.{err_is}
+use Rattle.driver.proofs.Stored.{store_names_none}
+use Rattle.mining.specs.Stops.{of_store}
 use Rattle.driver.proofs.first.begin_nodes.Goals as goal
 
 pub write_nodes-requires-clause-unmarked : goal.write_nodes-requires-clause-unmarked
@@ -35,3 +38,7 @@ returns-clause-steps g c =
 pub returns-clause-made : goal.returns-clause-made
 returns-clause-made g c =
     λ tells. subst (λ (f : Names). IsMade f (nodes_text c.args.conf.now.nodes) (files (g.S.Dir.told c.write_nodes.new.dir))) c.in_ok-folder.ensures (c.in_ok-write_nodes.ensures.made tells)
+
+pub returns-in_err-write_nodes-clause-no_store : goal.returns-in_err-write_nodes-clause-no_store
+returns-in_err-write_nodes-clause-no_store g c =
+    err_is (λ path line. ⊥) c.from_residual-in_err-write_nodes.result (of_store c.in_err-write_nodes.field-0.0) c.from_residual-in_err-write_nodes.ensures.1 (store_names_none (λ path line. ⊥) c.in_err-write_nodes.field-0.0)

@@ -15,6 +15,16 @@ use Rattle.mining.specs.Kept.{AllKept, Kept}
 use Rattle.mining.proofs.EnsureLemmas.{kept_after, stays_then}
 use Rattle.driver.proofs.Due.{due_after, first_follows, first_may, read_first}
 use Rattle.driver.proofs.Starting.{first_later, later_then}
+use Rattle.dir_disk.specs.Moments.{files}
+use Rattle.mining.specs.Stored.{IsNotAsMade}
+use Rattle.mining.proofs.StoredLemmas.{err_is}
+use Rattle.driver.proofs.Stored.{first_lacks}
+use Rattle.mining.proofs.StoredLemmas.{err_weaker}
+use Rattle.mining.specs.Between.{IsSure}
+use Rattle.mining.specs.Stored.{LacksFile}
+use Rattle.mining.specs.Table.{paths_read}
+use Rattle.mining.specs.declared.place.Place.TheVariants.{Nodes}
+use Rattle.driver.proofs.TakenUp.{ok_always}
 use Rattle.driver.proofs.first.make_base.Goals as goal
 
 pub returns-clause-stays : goal.returns-clause-stays
@@ -63,3 +73,23 @@ returns-clause-early g c =
 pub returns-clause-answers : goal.returns-clause-answers
 returns-clause-answers g c =
     let v = rank_vector 0 in answer_then g.S.Dir.tells g.S.Site.gives c.args.conf.now (g.S.Site.seen c.args.site.now) (g.S.Site.seen c.make_matrix.new.site) (g.S.Site.seen c.ensure_folder.new.site) (g.S.Site.given c.args.site.now) (g.S.Site.given c.make_matrix.new.site) (g.S.Site.given c.ensure_folder.new.site) (g.S.Dir.told c.make_matrix.new.site) (g.S.Dir.told c.ensure_folder.new.site) (Unit {0}) rank_of_base (rank_from 0) (rank_of (Vector 0)) (rank_of (Vector 0) + 1) c.ensure_folder.result (omega (arith, v)) c.in_ok-make_matrix.ensures.jobs.done (c.ensure_folder.ensures.log refl) c.in_ok-make_matrix.ensures.answers c.ensure_folder.ensures.answers
+
+pub returns-clause-matrix : goal.returns-clause-matrix
+returns-clause-matrix g c =
+    λ tells.
+    let e : Told = g.S.Dir.told c.make_matrix.new.site in
+    let f : Told = g.S.Dir.told c.ensure_folder.new.site in
+    ok_always (IsSure Matrix (files f)) c.ensure_folder.result (sure_kept Matrix (files e) (files f) tt refl (stays_after e f (c.ensure_folder.ensures.stays tells)) (c.in_ok-make_matrix.ensures.sure tells))
+
+pub returns-in_err-make_matrix-clause-stored : goal.returns-in_err-make_matrix-clause-stored
+returns-in_err-make_matrix-clause-stored g c =
+    λ tells form sure. err_is (IsNotAsMade c.args.conf.now (files (g.S.Dir.told c.make_matrix.new.site))) c.from_residual.result c.in_err-make_matrix.field-0.0 c.from_residual.ensures.1 (c.in_err-make_matrix.ensures.stored tells form sure)
+
+pub returns-clause-stored : goal.returns-clause-stored
+returns-clause-stored g c =
+    λ tells form sure.
+    let e : Told = g.S.Dir.told c.make_matrix.new.site in
+    let f : Told = g.S.Dir.told c.ensure_folder.new.site in
+    let conf = c.args.conf.now in
+    let nodes : IsSure Nodes (files f) = sure_kept Nodes (files e) (files f) tt refl (stays_after e f (c.ensure_folder.ensures.stays tells)) (c.in_ok-make_matrix.ensures.nodes tells) in
+    err_weaker (LacksFile (paths_read conf 0 (Vector 0)) (files f)) (IsNotAsMade conf (files f)) c.ensure_folder.result (first_lacks conf 0 (files f) nodes) (c.ensure_folder.ensures.stored tells)

@@ -13,6 +13,16 @@ use Rattle.mining.specs.Kept.{AllKept, Kept}
 use Rattle.mining.proofs.EnsureLemmas.{kept_after, stays_then}
 use Rattle.driver.proofs.Due.{due_after, matrix_follows, read_matrix}
 use Rattle.driver.proofs.Starting.{later_then, matrix_later}
+use Rattle.dir_disk.specs.Moments.{files}
+use Rattle.mining.specs.Stored.{IsNotAsMade}
+use Rattle.driver.proofs.Stored.{exits_none, matrix_lacks}
+use Rattle.mining.proofs.StoredLemmas.{err_weaker}
+use Rattle.mining.proofs.EnsureLemmas.{stays_after, sure_kept}
+use Rattle.mining.specs.Between.{IsSure}
+use Rattle.mining.specs.Stored.{LacksFile}
+use Rattle.mining.specs.Table.{paths_read}
+use Rattle.mining.specs.declared.place.Place.TheVariants.{Edges}
+use Rattle.driver.proofs.TakenUp.{ok_always}
 use Rattle.driver.proofs.first.make_matrix.Goals as goal
 
 pub returns-clause-stays : goal.returns-clause-stays
@@ -54,3 +64,23 @@ returns-clause-jobs g c =
 pub returns-clause-answers : goal.returns-clause-answers
 returns-clause-answers g c =
     begun_answer (Unit {0}) (g.S.Site.seen c.args.site.now) (g.S.Site.seen c.make_nodes.new.site) (g.S.Site.seen c.ensure_folder.new.site) c.ensure_folder.result c.make_nodes.ensures.seen c.ensure_folder.ensures.answers
+
+pub returns-clause-nodes : goal.returns-clause-nodes
+returns-clause-nodes g c =
+    λ tells.
+    let e : Told = g.S.Dir.told c.make_nodes.new.site in
+    let f : Told = g.S.Dir.told c.ensure_folder.new.site in
+    ok_always (IsSure Nodes (files f)) c.ensure_folder.result (sure_kept Nodes (files e) (files f) tt refl (stays_after e f (c.ensure_folder.ensures.stays tells)) (c.in_ok-make_nodes.ensures.sure tells))
+
+pub returns-in_err-make_nodes-clause-stored : goal.returns-in_err-make_nodes-clause-stored
+returns-in_err-make_nodes-clause-stored g c =
+    λ tells form sure. exits_none (IsNotAsMade c.args.conf.now (files (g.S.Dir.told c.make_nodes.new.site))) c.from_residual.result c.in_err-make_nodes.field-0.0 c.from_residual.ensures.1 c.in_err-make_nodes.ensures.no_store
+
+pub returns-clause-stored : goal.returns-clause-stored
+returns-clause-stored g c =
+    λ tells form sure.
+    let d : Told = g.S.Dir.told c.args.site.now in
+    let f : Told = g.S.Dir.told c.ensure_folder.new.site in
+    let conf = c.args.conf.now in
+    let edges : IsSure Edges (files f) = sure_kept Edges (files d) (files f) tt refl (stays_after d f (returns-clause-stays g c tells)) sure in
+    err_weaker (LacksFile (paths_read conf 0 Matrix) (files f)) (IsNotAsMade conf (files f)) c.ensure_folder.result (matrix_lacks conf 0 (files f) form edges) (c.ensure_folder.ensures.stored tells)

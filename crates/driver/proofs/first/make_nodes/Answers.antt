@@ -11,6 +11,7 @@ use Rattle.driver.proofs.Settling.{same_keeps}
 use Rattle.mining.proofs.Wholes.{same_state}
 use Rattle.driver.proofs.Sealing.{makes_outside, outside_after}
 use Rattle.driver.proofs.Starting.{later_then, nodes_later, same_later}
+use Rattle.driver.proofs.Stored.{exits_disk}
 use Rattle.driver.proofs.first.make_nodes.Goals as goal
 
 pub returns-in_err-has-clause-stays : goal.returns-in_err-has-clause-stays
@@ -59,3 +60,7 @@ returns-clause-later g c =
     let e : Told = (g.S.Dir.told c.has.new.site) in
     let f : Told = (g.S.Dir.told c.begin_nodes.new.site) in
     later_then (files (g.S.Dir.told c.args.site.now)) (files e) (files f) (same_later (files (g.S.Dir.told c.args.site.now)) (files e) (same_state (g.S.Dir.told c.args.site.now) e (c.has.ensures.stands tells))) (nodes_later (files e) (files f) (outside_after (folder_of Nodes) e f (makes_outside (folder_of Nodes) (nodes_text c.args.conf.now.nodes) e f (c.begin_nodes.ensures.steps tells))))
+
+pub returns-in_err-has-clause-no_store : goal.returns-in_err-has-clause-no_store
+returns-in_err-has-clause-no_store g c =
+    exits_disk (λ path line. ⊥) c.from_residual.result c.in_err-has.field-0.0 c.from_residual.ensures.1 c.in_err-has.ensures.of_disk

@@ -24,6 +24,14 @@ use Rattle.mining.proofs.EnsureLemmas.{on_ok}
 use Rattle.mining.proofs.LastLemmas.{part_longer, part_then}
 use Rattle.driver.specs.Opening.{HasRun, from_text}
 use Rattle.driver.proofs.Starting.{console_is, has_run}
+use Rattle.mining.specs.Stored.{IsNotAsMade}
+use Rattle.std.proofs.Common.{refl, sym}
+use Rattle.conf.specs.declared.commands.Form.{Form}
+use Rattle.mining.specs.Table.{matrix_for}
+use Rattle.mining.specs.Between.{IsSure}
+use Rattle.mining.specs.declared.place.Place.TheVariants.{Matrix}
+use Rattle.mining.proofs.EnsureLemmas.{stays_after, sure_kept}
+use Rattle.mining.proofs.StoredLemmas.{err_is}
 use Rattle.driver.proofs.mining_run.go_on.Goals as goal
 
 pub returns-in_err-from-clause-kept : goal.returns-in_err-from-clause-kept
@@ -108,3 +116,15 @@ returns-clause-past g c =
 pub returns-clause-answers : goal.returns-clause-answers
 returns-clause-answers g c =
     begun_answer (Unit {0}) (g.S.Site.seen c.args.site.now) (g.S.Site.seen c.start.new.site) (g.S.Site.seen c.mine_on.new.site) c.mine_on.result c.start.ensures.seen c.mine_on.ensures.answers
+
+pub returns-in_err-from-clause-stored : goal.returns-in_err-from-clause-stored
+returns-in_err-from-clause-stored g c =
+    λ tells form sure. err_is (IsNotAsMade c.args.conf.now (files (g.S.Dir.told c.start.new.site))) c.from_residual.result c.in_err-from.field-0.0 c.from_residual.ensures.1 (c.in_err-from.ensures.stored tells)
+
+pub returns-clause-stored : goal.returns-clause-stored
+returns-clause-stored g c =
+    λ tells form sure.
+    let d : Told = g.S.Dir.told c.args.site.now in
+    let e : Told = g.S.Dir.told c.start.new.site in
+    let matrix = sure_kept Matrix (files d) (files e) tt refl (stays_after d e (c.start.ensures.stays tells)) sure in
+    c.mine_on.ensures.stored tells (ap is_clustered form) (subst (λ (f : Form). IsSure (matrix_for f) (files e)) (sym form) matrix)

@@ -17,6 +17,8 @@ use Rattle.driver.proofs.Causes.{exits_by, then_jobs}
 use Rattle.driver.proofs.CausesUnmade.{no_jobs_refusal, refuses}
 use Rattle.std.proofs.Common.{List, ℕ}
 use Rattle.driver.specs.declared.outcome.Outcome.{Outcome}
+use Rattle.mining.specs.Stored.{IsNotAsMade}
+use Rattle.mining.proofs.StoredLemmas.{err_is}
 use Rattle.driver.proofs.mining_run.make_ready.Goals as goal
 
 pub returns-in_err-take_job-clause-unstarted : goal.returns-in_err-take_job-clause-unstarted
@@ -78,3 +80,11 @@ returns-clause-early g c =
 pub returns-clause-answers : goal.returns-clause-answers
 returns-clause-answers g c =
     begun_answer (Unit {0}) (g.S.Site.seen c.args.site.now) (g.S.Site.seen c.take_job.new.site) (g.S.Site.seen c.make_base.new.site) c.make_base.result c.take_job.ensures.seen c.make_base.ensures.answers
+
+pub returns-in_err-take_job-clause-stored : goal.returns-in_err-take_job-clause-stored
+returns-in_err-take_job-clause-stored g c =
+    λ tells form. err_is (IsNotAsMade c.args.conf.now (files (g.S.Dir.told c.take_job.new.site))) c.from_residual.result c.in_err-take_job.field-0.0 c.from_residual.ensures.1 (c.in_err-take_job.ensures.stored tells)
+
+pub returns-clause-stored : goal.returns-clause-stored
+returns-clause-stored g c =
+    λ tells form. c.make_base.ensures.stored tells form (c.in_ok-take_job.ensures.sure tells)

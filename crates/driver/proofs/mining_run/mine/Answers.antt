@@ -23,6 +23,8 @@ use Rattle.driver.proofs.Causes.{exits, of_disk, same_found, settled_found}
 use Rattle.driver.proofs.CausesUnmade.{no_disk_refusal, none_then, refuses, settled_none}
 use Rattle.std.proofs.Common.{List, ℕ}
 use Rattle.driver.specs.declared.outcome.Outcome.{Outcome}
+use Rattle.mining.specs.Stored.{IsNotAsMade}
+use Rattle.driver.proofs.Stored.{exits_disk}
 use Rattle.driver.proofs.mining_run.mine.Goals as goal
 
 pub returns-in_err-settle_all-clause-unstarted : goal.returns-in_err-settle_all-clause-unstarted
@@ -121,3 +123,7 @@ returns-clause-log g c =
 pub returns-clause-answers : goal.returns-clause-answers
 returns-clause-answers g c =
     begun_answer (Unit {0}) (g.S.Site.seen c.args.site.now) (g.S.Site.seen c.settle_all.new.site) (g.S.Site.seen c.mine_settled.new.site) c.mine_settled.result c.settle_all.ensures.seen c.mine_settled.ensures.answers
+
+pub returns-in_err-settle_all-clause-stored : goal.returns-in_err-settle_all-clause-stored
+returns-in_err-settle_all-clause-stored g c =
+    λ tells form. exits_disk (IsNotAsMade c.args.conf.now (files (g.S.Dir.told c.settle_all.new.site))) c.from_residual.result c.in_err-settle_all.field-0.0 c.from_residual.ensures.1 c.in_err-settle_all.ensures.of_disk

@@ -36,6 +36,9 @@ use Rattle.driver.proofs.Causes.{exits, exits_by, of_disk, same_opened, then_min
 use Rattle.driver.proofs.CausesUnmade.{no_disk_refusal, no_mining_refusal, none_then, refuses, same_none}
 use Rattle.std.proofs.Common.{List, ℕ}
 use Rattle.driver.specs.declared.outcome.Outcome.{Outcome}
+use Rattle.mining.specs.Stored.{IsNotAsMade}
+use Rattle.mining.proofs.StoredLemmas.{err_is}
+use Rattle.driver.proofs.Stored.{exits_disk}
 use Rattle.driver.proofs.mining_run.mine_settled.Goals as goal
 
 pub returns-in_err-had_first-clause-unstarted : goal.returns-in_err-had_first-clause-unstarted
@@ -174,3 +177,15 @@ returns-clause-log g c =
 pub returns-clause-answers : goal.returns-clause-answers
 returns-clause-answers g c =
     begun_answer (Unit {0}) (g.S.Site.seen c.args.site.now) (g.S.Site.seen c.has.new.site) (g.S.Site.seen c.go_on.new.site) c.go_on.result c.has.ensures.seen (answer_then g.S.Dir.tells g.S.Site.gives c.args.conf.now (g.S.Site.seen c.has.new.site) (g.S.Site.seen c.make_ready.new.site) (g.S.Site.seen c.go_on.new.site) (g.S.Site.given c.has.new.site) (g.S.Site.given c.make_ready.new.site) (g.S.Site.given c.go_on.new.site) (g.S.Dir.told c.make_ready.new.site) (g.S.Dir.told c.go_on.new.site) (Unit {0}) rank_of_base (rank_after 0) (rank_after 0) rank_behind c.go_on.result (omega arith) c.in_ok-make_ready.ensures.jobs.done c.go_on.ensures.jobs.gains c.in_ok-make_ready.ensures.answers c.go_on.ensures.answers)
+
+pub returns-in_err-had_first-clause-stored : goal.returns-in_err-had_first-clause-stored
+returns-in_err-had_first-clause-stored g c =
+    λ tells form. exits_disk (IsNotAsMade c.args.conf.now (files (g.S.Dir.told c.has.new.site))) c.from_residual.result c.in_err-had_first.field-0.0 c.from_residual.ensures.1 c.in_err-had_first.ensures.of_disk
+
+pub returns-in_err-make_ready-clause-stored : goal.returns-in_err-make_ready-clause-stored
+returns-in_err-make_ready-clause-stored g c =
+    λ tells form. err_is (IsNotAsMade c.args.conf.now (files (g.S.Dir.told c.make_ready.new.site))) c.from_residual-in_err-make_ready.result c.in_err-make_ready.field-0.0 c.from_residual-in_err-make_ready.ensures.1 (c.in_err-make_ready.ensures.stored tells form)
+
+pub returns-clause-stored : goal.returns-clause-stored
+returns-clause-stored g c =
+    λ tells form. c.go_on.ensures.stored tells form (c.in_ok-make_ready.ensures.matrix tells)

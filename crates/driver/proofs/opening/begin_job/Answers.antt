@@ -17,6 +17,7 @@ use Rattle.driver.proofs.Causes.{exits, of_disk, unmarked_mark}
 use Rattle.driver.proofs.CausesUnmade.{begun_none, no_disk_refusal, refuses}
 use Rattle.std.proofs.Common.{List, ℕ}
 use Rattle.driver.specs.declared.outcome.Outcome.{Outcome}
+use Rattle.driver.proofs.Stored.{exits_disk}
 use Rattle.driver.proofs.opening.begin_job.Goals as goal
 
 pub returns-in_err-make_conf-clause-unmade : goal.returns-in_err-make_conf-clause-unmade
@@ -70,3 +71,7 @@ returns-in_err-make_conf-clause-later g c =
 pub returns-clause-later : goal.returns-clause-later
 returns-clause-later g c =
     λ tells. later_then (files (g.S.Dir.told c.args.site.now)) (files (g.S.Dir.told c.make_conf.new.site)) (files (g.S.Dir.told c.make_edges.new.site)) (conf_later (files (g.S.Dir.told c.args.site.now)) (files (g.S.Dir.told c.make_conf.new.site)) (outside_after (folder_of Conf) (g.S.Dir.told c.args.site.now) (g.S.Dir.told c.make_conf.new.site) (c.make_conf.ensures.outside tells))) (edges_later (files (g.S.Dir.told c.make_conf.new.site)) (files (g.S.Dir.told c.make_edges.new.site)) (outside_after (folder_of Edges) (g.S.Dir.told c.make_conf.new.site) (g.S.Dir.told c.make_edges.new.site) (c.make_edges.ensures.outside tells)))
+
+pub returns-in_err-make_conf-clause-no_store : goal.returns-in_err-make_conf-clause-no_store
+returns-in_err-make_conf-clause-no_store g c =
+    exits_disk (λ path line. ⊥) c.from_residual.result c.in_err-make_conf.field-0.0 c.from_residual.ensures.1 c.in_err-make_conf.ensures.of_disk

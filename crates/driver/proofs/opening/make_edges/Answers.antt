@@ -25,6 +25,8 @@ use Rattle.driver.proofs.Causes.{exits, exits_by, of_reading}
 use Rattle.driver.proofs.CausesUnmade.{refused_edges, refuses}
 use Rattle.std.proofs.Common.{List, ℕ}
 use Rattle.driver.specs.declared.outcome.Outcome.{Outcome}
+use Rattle.mining.proofs.StoredLemmas.{err_is}
+use Rattle.driver.proofs.Stored.{ingest_names_none}
 use Rattle.driver.proofs.opening.make_edges.Goals as goal
 
 pub returns-in_err-folder-clause-unmade : goal.returns-in_err-folder-clause-unmade
@@ -99,3 +101,7 @@ pub returns-clause-whole : goal.returns-clause-whole
 returns-clause-whole g c =
     λ tells.
     subst (λ (f : Names). files (g.S.Dir.told c.write_edges.new.dir) (success_of f) ≡ fixed (Some [])) c.in_ok-folder.ensures (c.in_ok-write_edges.ensures.whole tells)
+
+pub returns-in_err-write_edges-clause-no_store : goal.returns-in_err-write_edges-clause-no_store
+returns-in_err-write_edges-clause-no_store g c =
+    err_is (λ path line. ⊥) c.from_residual-in_err-write_edges.result (of_ingest c.in_err-write_edges.field-0.0) c.from_residual-in_err-write_edges.ensures.1 (ingest_names_none (λ path line. ⊥) c.in_err-write_edges.field-0.0)

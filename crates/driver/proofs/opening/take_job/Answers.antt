@@ -19,6 +19,10 @@ use Rattle.driver.proofs.Causes.{exits, of_disk, same_opened, sure_mark}
 use Rattle.driver.proofs.CausesUnmade.{no_disk_refusal, none_then, refuses, same_none}
 use Rattle.std.proofs.Common.{List, ℕ}
 use Rattle.driver.specs.declared.outcome.Outcome.{Outcome}
+use Rattle.dir_disk.specs.Moments.{files}
+use Rattle.mining.specs.Stored.{IsNotAsMade}
+use Rattle.mining.proofs.StoredLemmas.{err_none}
+use Rattle.driver.proofs.Stored.{exits_disk}
 use Rattle.driver.proofs.opening.take_job.Goals as goal
 
 pub returns-in_err-has-clause-unmade : goal.returns-in_err-has-clause-unmade
@@ -91,3 +95,15 @@ returns-then-branch-clause-later g c =
 pub returns-else-branch-clause-later : goal.returns-else-branch-clause-later
 returns-else-branch-clause-later g c =
     λ tells. later_then (files (g.S.Dir.told c.args.site.now)) (files (g.S.Dir.told c.has.new.site)) (files (g.S.Dir.told c.begin_job.new.site)) (same_later (files (g.S.Dir.told c.args.site.now)) (files (g.S.Dir.told c.has.new.site)) (same_state (g.S.Dir.told c.args.site.now) (g.S.Dir.told c.has.new.site) (c.has.ensures.stands tells))) (c.begin_job.ensures.later tells)
+
+pub returns-in_err-has-clause-stored : goal.returns-in_err-has-clause-stored
+returns-in_err-has-clause-stored g c =
+    λ tells. exits_disk (IsNotAsMade c.args.conf.now (files (g.S.Dir.told c.has.new.site))) c.from_residual.result c.in_err-has.field-0.0 c.from_residual.ensures.1 c.in_err-has.ensures.of_disk
+
+pub returns-then-branch-clause-stored : goal.returns-then-branch-clause-stored
+returns-then-branch-clause-stored g c =
+    λ tells. c.check_job.ensures.stored tells (c.in_ok-has.ensures.yes tells c.if-branch.true)
+
+pub returns-else-branch-clause-stored : goal.returns-else-branch-clause-stored
+returns-else-branch-clause-stored g c =
+    λ tells. err_none (IsNotAsMade c.args.conf.now (files (g.S.Dir.told c.begin_job.new.site))) c.begin_job.result c.begin_job.ensures.no_store

@@ -9,6 +9,8 @@ use Rattle.mining.proofs.EnsureLemmas.{as_same, kept_after, looks_stay, stays_th
 use Rattle.mining.proofs.LastLemmas.{most_small}
 use Rattle.driver.proofs.Settling.{same_keeps}
 use Rattle.driver.proofs.TakenUp.{at_reached, sure_reached}
+use Rattle.mining.specs.Stored.{IsNotAsMade}
+use Rattle.driver.proofs.Stored.{exits_none}
 use Rattle.driver.proofs.resume.after_first.Goals as goal
 
 pub returns-in_err-k-clause-stays : goal.returns-in_err-k-clause-stays
@@ -54,3 +56,11 @@ returns-clause-at g c =
     let mining : Mining = mining_of g.S.Site.gives c.args.conf.now edges in
     let first : Through (EachImage (Kept mining)) (g.S.Dir.told c.args.site.now) (g.S.Dir.told c.reached.new.site) = same_keeps mining (g.S.Dir.told c.args.site.now) (g.S.Dir.told c.reached.new.site) kept (c.reached.ensures.stands tells) in
     at_reached mining c.in_ok-k.k c.take_up.result c.take_up.ensures.is (c.take_up.ensures.at edges tells (kept_after mining (g.S.Dir.told c.args.site.now) (g.S.Dir.told c.reached.new.site) kept first) (c.in_ok-k.ensures.sure tells c.in_ok-k.k (omega arith)))
+
+pub returns-in_err-k-clause-stored : goal.returns-in_err-k-clause-stored
+returns-in_err-k-clause-stored g c =
+    λ tells. exits_none (IsNotAsMade c.args.conf.now (files (g.S.Dir.told c.reached.new.site))) c.from_residual.result c.in_err-k.field-0.0 c.from_residual.ensures.1 c.in_err-k.ensures.no_store
+
+pub returns-clause-stored : goal.returns-clause-stored
+returns-clause-stored g c =
+    λ tells. c.take_up.ensures.stored tells (c.in_ok-k.ensures.sure tells c.in_ok-k.k (omega arith))

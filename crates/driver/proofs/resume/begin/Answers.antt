@@ -9,6 +9,9 @@ use Rattle.mining.proofs.AckLemmas.{acks_through}
 use Rattle.mining.proofs.EnsureLemmas.{looks_stay, sure_same}
 use Rattle.mining.proofs.Looks.{same_after}
 use Rattle.driver.proofs.TakenUp.{first_line}
+use Rattle.mining.specs.Stored.{IsNotAsMade}
+use Rattle.mining.proofs.StoredLemmas.{err_is}
+use Rattle.driver.proofs.Stored.{exits_none}
 use Rattle.driver.proofs.resume.begin.Goals as goal
 
 pub returns-in_err-changed-clause-acked : goal.returns-in_err-changed-clause-acked
@@ -52,3 +55,11 @@ returns-clause-ok g c =
     let mining : Mining = mining_of g.S.Site.gives c.args.conf.now edges in
     let line = first_line mining (files (g.S.Dir.told c.args.site.now)) c.in_ok-changed.changed (λ q. g.met.S.Dir.now_allowed c.args.site.now q tells) kept sure (c.in_ok-changed.ensures.count tells) in
     subst (λ (said : Option (List ℕ)). g.S.Console.said c.say_iteration.new.site ≡ added said (line_at mining 0)) c.count_changed.ensures.said (subst (λ (text : List ℕ). g.S.Console.said c.say_iteration.new.site ≡ added (g.S.Console.said c.count_changed.new.site) text) line c.in_ok-say_iteration.ensures.ok)
+
+pub returns-in_err-changed-clause-stored : goal.returns-in_err-changed-clause-stored
+returns-in_err-changed-clause-stored g c =
+    λ tells sure. err_is (IsNotAsMade c.args.conf.now (files (g.S.Dir.told c.count_changed.new.site))) c.from_residual.result c.in_err-changed.field-0.0 c.from_residual.ensures.1 (c.in_err-changed.ensures.stored tells (omega arith) sure)
+
+pub returns-in_err-say_iteration-clause-stored : goal.returns-in_err-say_iteration-clause-stored
+returns-in_err-say_iteration-clause-stored g c =
+    λ tells sure. exits_none (IsNotAsMade c.args.conf.now (files (g.S.Dir.told c.say_iteration.new.site))) c.from_residual-in_err-say_iteration.result c.in_err-say_iteration.field-0.0 c.from_residual-in_err-say_iteration.ensures.1 c.in_err-say_iteration.ensures.no_store

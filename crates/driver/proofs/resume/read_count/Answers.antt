@@ -15,3 +15,9 @@ returns-in-Hcc-clause-at g c =
     let d : Told = g.S.Dir.told c.args.site.now in
     let few : c.args.k < 10 ^ 10 = (let most = c.requires.few in omega (arith, most)) in
     at_counted mining c.args.k c.count_changed.result (if_ok (λ changed. changes_in (bytes_at_each (files d) (part_paths (Vector c.args.k) c.args.conf.now.reducers)) ≡ Some changed) (λ changed. count_of mining c.args.k ≡ Some changed) c.count_changed.result (λ changed is. sym (count_is mining c.args.k (files d) (λ q. g.met.S.Dir.now_allowed c.args.site.now q tells) kept few sure) ∙ is) (c.count_changed.ensures.count tells))
+
+pub returns-in-Hcc-clause-stored : goal.returns-in-Hcc-clause-stored
+returns-in-Hcc-clause-stored g c =
+    λ tells sure.
+    let few : c.args.k < 10 ^ 10 = (let most = c.requires.few in omega (arith, most)) in
+    c.count_changed.ensures.stored tells few sure

@@ -8,6 +8,9 @@ use Rattle.mining.specs.Between.{IsSure}
 use Rattle.mining.proofs.AckLemmas.{acks_through}
 use Rattle.report.specs.Lines.{resumed_text}
 use Rattle.driver.proofs.TakenUp.{ok_always}
+use Rattle.std.proofs.Common.{sym}
+use Rattle.mining.specs.Stored.{IsNotAsMade}
+use Rattle.driver.proofs.Stored.{exits_none}
 use Rattle.driver.proofs.resume.resume.Goals as goal
 
 pub returns-clause-kept : goal.returns-clause-kept
@@ -31,3 +34,11 @@ returns-clause-acked g c =
 pub returns-clause-ok : goal.returns-clause-ok
 returns-clause-ok g c =
     ok_always (g.S.Console.said c.take_up_any.new.site ≡ added (g.S.Console.said c.args.site.now) (resumed_text c.args.k)) c.take_up_any.result (c.take_up_any.ensures.said ∙ c.in_ok-say_resumed.ensures.ok)
+
+pub returns-in_err-say_resumed-clause-stored : goal.returns-in_err-say_resumed-clause-stored
+returns-in_err-say_resumed-clause-stored g c =
+    λ tells sure. exits_none (IsNotAsMade c.args.conf.now (files (g.S.Dir.told c.say_resumed.new.site))) c.from_residual.result c.in_err-say_resumed.field-0.0 c.from_residual.ensures.1 c.in_err-say_resumed.ensures.no_store
+
+pub returns-clause-stored : goal.returns-clause-stored
+returns-clause-stored g c =
+    λ tells sure. c.take_up_any.ensures.stored tells (subst (λ (t : Told). IsSure (Vector c.args.k) (files t)) (sym (c.say_resumed.ensures.told tells)) sure)

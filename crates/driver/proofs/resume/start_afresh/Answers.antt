@@ -15,6 +15,9 @@ use Rattle.mining.proofs.Looks.{same_after}
 use Rattle.driver.proofs.TakenUp.{ok_always}
 use Rattle.dir_disk.specs.State.{Held}
 use Rattle.driver.proofs.Starting.{looked_firm, looked_sure}
+use Rattle.dir_disk.specs.Moments.{files}
+use Rattle.mining.specs.Stored.{IsNotAsMade}
+use Rattle.mining.proofs.StoredLemmas.{err_is}
 use Rattle.driver.proofs.resume.start_afresh.Goals as goal
 
 pub after_first-requires-clause-firm : goal.after_first-requires-clause-firm
@@ -78,3 +81,7 @@ returns-clause-part g c =
     λ edges tells kept.
     let mining : Mining = mining_of g.S.Site.gives c.args.conf.now edges in
     subst (λ (said : Option (List ℕ)). AddsPart (g.S.Console.said c.args.site.now) said (line_at mining 0)) (sym c.after_first.ensures.said) (c.begin.ensures.part edges tells kept (c.requires.sure tells))
+
+pub returns-in_err-first-clause-stored : goal.returns-in_err-first-clause-stored
+returns-in_err-first-clause-stored g c =
+    λ tells. err_is (IsNotAsMade c.args.conf.now (files (g.S.Dir.told c.begin.new.site))) c.from_residual.result c.in_err-first.field-0.0 c.from_residual.ensures.1 (c.in_err-first.ensures.stored tells (c.requires.sure tells))

@@ -17,6 +17,8 @@ use Rattle.mining.specs.Flow.{most_of}
 use Rattle.mining.proofs.Wholes.{same_state}
 use Rattle.driver.specs.Opening.{IsGreatest}
 use Rattle.driver.proofs.Starting.{nothing_part, one_greatest, reached_greatest}
+use Rattle.mining.specs.Stored.{IsNotAsMade}
+use Rattle.driver.proofs.Stored.{exits_none}
 use Rattle.driver.proofs.resume.start_again.Goals as goal
 
 pub returns-clause-sure : goal.returns-clause-sure
@@ -104,3 +106,11 @@ returns-clause-part g c =
     let found : IsGreatest most (files e) c.in_ok-k.k = reached_greatest most c.in_ok-k.k (files e) (λ q. g.met.S.Dir.now_allowed c.reached.new.site q tells) bound (c.in_ok-k.ensures.sure tells) (λ less. c.in_ok-k.ensures.no_more tells (let is = c.most_of.ensures in omega (arith, less, is))) in
     let one : c.in_ok-k.k ≡ k = one_greatest most c.in_ok-k.k k (files e) found (subst (λ (s : State). IsGreatest most s k) (sym same) greatest) in
     subst (λ (j : ℕ). AddsPart (g.S.Console.said c.args.site.now) (g.S.Console.said c.resume.new.site) (resumed_text j)) one (subst (λ (said : Option (List ℕ)). AddsPart said (g.S.Console.said c.resume.new.site) (resumed_text c.in_ok-k.k)) c.reached.ensures.said c.resume.ensures.part)
+
+pub returns-in_err-k-clause-stored : goal.returns-in_err-k-clause-stored
+returns-in_err-k-clause-stored g c =
+    λ tells. exits_none (IsNotAsMade c.args.conf.now (files (g.S.Dir.told c.reached.new.site))) c.from_residual.result c.in_err-k.field-0.0 c.from_residual.ensures.1 c.in_err-k.ensures.no_store
+
+pub returns-clause-stored : goal.returns-clause-stored
+returns-clause-stored g c =
+    λ tells. c.resume.ensures.stored tells (c.in_ok-k.ensures.sure tells c.in_ok-k.k (omega arith))

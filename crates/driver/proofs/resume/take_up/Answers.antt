@@ -2,6 +2,10 @@ use Rattle.std.proofs.Common.{◌^◌, ◌<◌, arith}
 use Rattle.mining.specs.Flow.{Mining, mining_of}
 use Rattle.mining.proofs.EnsureLemmas.{looks_keep, looks_stay, stays_then}
 use Rattle.driver.proofs.TakenUp.{taken_kept}
+use Rattle.dir_disk.specs.Moments.{files}
+use Rattle.mining.specs.Stored.{IsNotAsMade}
+use Rattle.mining.proofs.StoredLemmas.{err_is}
+use Rattle.driver.proofs.Stored.{exits_none}
 use Rattle.driver.proofs.resume.take_up.Goals as goal
 
 pub returns-in_err-changed-clause-stays : goal.returns-in_err-changed-clause-stays
@@ -33,3 +37,11 @@ returns-clause-kept g c =
     let mining : Mining = mining_of g.S.Site.gives c.args.conf.now edges in
     let few : c.args.k < 10 ^ 10 = (let most = c.requires.few in omega (arith, most)) in
     taken_kept mining c.args.k (g.S.Dir.told c.args.site.now) (g.S.Dir.told c.read_count.new.site) (g.S.Dir.told c.drop_messages.new.site) (λ q. g.met.S.Dir.now_allowed c.read_count.new.site q tells) c.requires.some few kept sure (c.read_count.ensures.stands tells) (λ there next. c.drop_messages.ensures.kept mining tells there next)
+
+pub returns-in_err-changed-clause-stored : goal.returns-in_err-changed-clause-stored
+returns-in_err-changed-clause-stored g c =
+    λ tells sure. err_is (IsNotAsMade c.args.conf.now (files (g.S.Dir.told c.read_count.new.site))) c.from_residual.result c.in_err-changed.field-0.0 c.from_residual.ensures.1 (c.in_err-changed.ensures.stored tells sure)
+
+pub returns-in_err-drop_messages-clause-stored : goal.returns-in_err-drop_messages-clause-stored
+returns-in_err-drop_messages-clause-stored g c =
+    λ tells sure. exits_none (IsNotAsMade c.args.conf.now (files (g.S.Dir.told c.drop_messages.new.site))) c.from_residual-in_err-drop_messages.result c.in_err-drop_messages.field-0.0 c.from_residual-in_err-drop_messages.ensures.1 c.in_err-drop_messages.ensures.no_store

@@ -12,6 +12,10 @@ use Rattle.conf.specs.declared.reading.Conf.{Conf as Settings}
 use Rattle.driver.proofs.Starting.{acks_begun}
 use Rattle.driver.proofs.RunLemmas.{DoneFor, KeptFor, SaidFor, meant_for, mean_one}
 use Rattle.driver.proofs.Causes.{OpenedFor}
+use Rattle.dir_disk.specs.Moments.{files}
+use Rattle.mining.specs.Stored.{IsNotAsMade}
+use Rattle.std.proofs.Common.{rules}
+use Rattle.conf.specs.declared.commands.Form.TheVariants.{Base}
 use Rattle.driver.proofs.running.carry_out.Goals as goal
 
 pub returns-in-Err-clause-opened : goal.returns-in-Err-clause-opened
@@ -121,3 +125,15 @@ returns-in-None-clause-log g c =
 pub returns-in-None-clause-idle : goal.returns-in-None-clause-idle
 returns-in-None-clause-idle g c =
     λ conf mean plain. c.run_over-in-None.ensures.idle (subst (λ (read : Settings). read.command ≡ Plain) (mean_one (map string_bytes c.args.words.now) conf c.in-Ok.conf mean c.in-Ok.ensures.accepted) plain)
+
+pub returns-in-Some-clause-stored : goal.returns-in-Some-clause-stored
+returns-in-Some-clause-stored g c =
+    λ conf path line mean tells is.
+    let form : c.in-Ok.conf.form ≡ Base = search rules in
+    subst (λ (read : Settings). IsNotAsMade read (files (g.S.Dir.told c.run_over.new.site)) path line) (mean_one (map string_bytes c.args.words.now) c.in-Ok.conf conf c.in-Ok.ensures.accepted mean) (c.run_over.ensures.stored path line tells form is)
+
+pub returns-in-None-clause-stored : goal.returns-in-None-clause-stored
+returns-in-None-clause-stored g c =
+    λ conf path line mean tells is.
+    let form : c.in-Ok.conf.form ≡ Base = search rules in
+    subst (λ (read : Settings). IsNotAsMade read (files (g.S.Dir.told c.run_over-in-None.new.site)) path line) (mean_one (map string_bytes c.args.words.now) c.in-Ok.conf conf c.in-Ok.ensures.accepted mean) (c.run_over-in-None.ensures.stored path line tells form is)

@@ -3,11 +3,14 @@ use Rattle.job.specs.Failing.{gained}
 use Rattle.driver.specs.Logged.{LogsRun, TellsOfOutcome}
 use Rattle.std.proofs.Common.{◌∙◌, sym}
 use Rattle.driver.proofs.RunLemmas.{if_done, none_done, not_done}
-use Rattle.std.proofs.Common.{IfSome, List, ℕ, subst}
+use Rattle.std.proofs.Common.{IfSome, subst}
 use Rattle.dir_disk.specs.Moments.{files}
 use Rattle.driver.specs.Causes.{IsOpened}
 use Rattle.driver.specs.declared.outcome.Outcome.{Outcome}
 use Rattle.driver.specs.Causes.{IsRefusal}
+use Rattle.mining.specs.Stored.{IsNotAsMade}
+use Rattle.std.proofs.Common.{sym, ◌∙◌}
+use Rattle.driver.proofs.Stored.{outcome_names}
 use Rattle.driver.proofs.running.run_mining.Goals as goal
 
 pub returns-in-Err-clause-unstarted : goal.returns-in-Err-clause-unstarted
@@ -48,3 +51,7 @@ returns-in-Ok-clause-answers g c =
 pub returns-in-Err-clause-answers : goal.returns-in-Err-clause-answers
 returns-in-Err-clause-answers g c =
     subst (λ (o : Outcome). TellsOfOutcome (gained (g.S.Site.seen c.args.site.now).log (g.S.Site.seen c.mine.new.site).log) o) (sym c.into.ensures) (outcome_told (gained (g.S.Site.seen c.args.site.now).log (g.S.Site.seen c.mine.new.site).log) c.in-Err.stop c.in-Err.ensures.answers)
+
+pub returns-in-Err-clause-stored : goal.returns-in-Err-clause-stored
+returns-in-Err-clause-stored g c =
+    λ path line tells form is. outcome_names (IsNotAsMade c.args.conf.now (files (g.S.Dir.told c.mine.new.site))) c.in-Err.stop path line (c.in-Err.ensures.stored tells form) (sym c.into.ensures ∙ is)

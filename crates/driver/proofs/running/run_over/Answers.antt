@@ -7,6 +7,7 @@ use Rattle.conf.specs.Commands.{is_mining}
 use Rattle.driver.specs.Opening.{HasVectors, StaysOne}
 use Rattle.driver.proofs.RunLemmas.{mines_other, none_stay}
 use Rattle.driver.proofs.CausesUnmade.{same_none}
+use Rattle.driver.proofs.Stored.{plain_names_none}
 use Rattle.driver.proofs.running.run_over.Goals as goal
 
 pub returns-in-Plain-clause-unstarted : goal.returns-in-Plain-clause-unstarted
@@ -68,3 +69,7 @@ returns-in-Plain-clause-idle g c =
 pub returns-in_default-clause-idle : goal.returns-in_default-clause-idle
 returns-in_default-clause-idle g c =
     λ is. absurd (c.in_default.not-Plain is)
+
+pub returns-in-Plain-clause-stored : goal.returns-in-Plain-clause-stored
+returns-in-Plain-clause-stored g c =
+    λ path line tells form is. absurd (plain_names_none c.label_nodes.result path line c.label_nodes.ensures.own is)
