@@ -1,16 +1,16 @@
 -- An empty work folder is kept, whatever is mined.
-use Rattle.std.proofs.Common.{◌≡◌, sym, ap, subst, ℕ, List, [], ◌∷◌, Option, Some, None, inl, inr}
+use Rattle.std.proofs.Common.{◌≡◌, sym, ap, subst, ℕ, List, [], ◌∷◌, Option, None, inl, inr}
 use Rattle.std.specs.Prelude.{IsSome}
 use Rattle.std.proofs.lemmas.Bool.{false≢true}
 use Rattle.dir_disk.specs.Moments.{EachImage, Told, files}
-use Rattle.dir_disk.specs.State.{Allows, Content, Fits, FitsEither, Gone, Held, Image, State, absent, no_files}
+use Rattle.dir_disk.specs.State.{Allows, Content, Fits, Gone, Image, State, no_files}
 use Rattle.dir_disk.proofs.Through.{at_end}
 use Rattle.committer.specs.Paths.{success_of}
 use Rattle.mining.specs.declared.place.Place.{Place}
 use Rattle.mining.specs.declared.place.Place.TheVariants.{Edges, Vector}
 use Rattle.mining.specs.Places.{folder_of}
 use Rattle.mining.specs.Flow.{Mining}
-use Rattle.mining.specs.Kept.{AllKept, Has, Kept}
+use Rattle.mining.specs.Kept.{AllKept, Has}
 use Rattle.graph.specs.declared.edges.Edge.{Edge}
 use Rattle.conf.specs.declared.reading.Conf.{Conf as Settings}
 use Rattle.driver.specs.Headline.{HasWritten, WhereverItStops}

@@ -1,4 +1,4 @@
-use Rattle.std.proofs.Common.{◌≡◌, ◌≢◌, ◌∙◌, ℕ, List, Some, None, map, ap, sym, refl}
+use Rattle.std.proofs.Common.{◌≢◌, ◌∙◌, Some, None, map, ap, sym}
 use Rattle.std.specs.String.{string_bytes}
 use Rattle.child.specs.Words.{rule_of}
 use Rattle.run_mem.proofs.BundledLemmas.{given_is}

@@ -31,3 +31,13 @@ returns-clause-log g c =
 pub returns-clause-answers : goal.returns-clause-answers
 returns-clause-answers g c =
     answers_after _ _ _ (ap (λ (m : Memory). m.seen.log) c.new-site.ensures.fresh) c.run-outcome.ensures.answers
+
+pub returns-clause-stored : goal.returns-clause-stored
+returns-clause-stored g c =
+    λ conf path line mean is. c.run-outcome.ensures.stored conf path line mean c.new-site.ensures.tells is
+
+pub returns-clause-unblamed : goal.returns-clause-unblamed
+returns-clause-unblamed g c =
+    λ conf accepted path line asks.
+    let empty : files (told_of c.new-site.result.dir) ≡ no_files = ap (λ (m : Memory). files (told_of m.dir)) c.new-site.ensures.fresh ∙ c.new-dir.ensures.empty in
+    c.run-outcome.ensures.unblamed conf accepted path line asks c.new-site.ensures.tells bundled_follow (empty_is_kept (mining_of bundled conf accepted) _ empty)
