@@ -1,0 +1,2 @@
+pub mod TwinLemmas
+pub mod TwinLaws
