@@ -1,2 +1,3 @@
 pub mod TwinLemmas
 pub mod TwinLaws
+pub mod NumberLemmas

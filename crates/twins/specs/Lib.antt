@@ -1,3 +1,4 @@
 pub mod Rules
 pub mod Laws
+pub mod Numbers
 pub mod Tasks

@@ -3,6 +3,7 @@
 #![tactic(auto)]
 
 mod laws;
+mod number_set;
 mod task;
 mod twins;
 

@@ -1,6 +1,6 @@
 ghost use Rattle.std.specs.Prelude.{◌≡◌, ◌≢◌, ℕ, ◌≤◌, List, [], ◌∷◌, length, MatchOption};
 ghost use Rattle.task_core.specs.Board.{Open, ended, is_dead, is_done, refused, started, without};
-ghost use Rattle.twins.specs.Tasks.{list_of, twin_tried};
+ghost use Rattle.twins.specs.Tasks.{is_idle, is_lone, list_of, twin_tried};
 
 /// The attempts of a task that run, by their numbers.
 #[derive(Clone, Copy)]
@@ -59,6 +59,20 @@ impl Twin {
             Twin::Open(next, Pair::Neither) if next <= 4 => Some(next),
             _ => None,
         }
+    }
+
+    /// Whether none runs and one is left.
+    pub(crate) fn is_idle(self) -> bool
+        ensures { result ≡ is_idle (twin_tried self) }
+    {
+        matches!(self, Twin::Open(next, Pair::Neither) if next <= 4)
+    }
+
+    /// Whether just one runs and one is left.
+    pub(crate) fn is_lone(self) -> bool
+        ensures { result ≡ is_lone (twin_tried self) }
+    {
+        matches!(self, Twin::Open(next, Pair::One(_)) if next <= 4)
     }
 
     /// The number of its next attempt, where just one runs and one is left.

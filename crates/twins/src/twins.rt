@@ -1,20 +1,29 @@
-ghost use Rattle.std.specs.Prelude.{◌≡◌, ℕ, ℤ, ◌<◌, ◌↔◌, IsTrue, IfOk, MatchOption};
-ghost use Rattle.task_core.specs.Board.{AllDone, IsBusy, IsIdle, IsLeastDead, NoneDead, Runs, Start, Refuse, End, is_success, after, becomes_done, fresh, running_of, tried_at};
+ghost use Rattle.std.specs.Prelude.{◌≡◌, ℕ, ℤ, ◌+◌, ◌<◌, ◌≤◌, ◌↔◌, true, false, min, IsTrue, IfOk, MatchOption};
+ghost use Rattle.task_core.specs.Board.{AllDone, IsBusy, IsIdle, IsLeastDead, NoneDead, Runs, Start, Refuse, End, is_dead, is_done, is_success, after, becomes_done, fresh, running_of, tried_at, with_tried};
 ghost use Rattle.twins.specs.Rules.{IsLone, MayStartTwin};
+ghost use Rattle.twins.specs.Tasks.{MayPut, lacks, twin_tried};
 
+use crate::number_set::NumberSet;
 use crate::task::{Pair, Twin};
 use peg_text::NoMemory;
 use std::alloc::Global;
 use std::marker::Model;
 use task_core::Attempting;
 
-/// The tasks of one phase and their attempts, of which two may run at once where a slot would stay free else.
+/// The tasks of one phase and their attempts, of which two of a task may run at once where a slot would stay free else.
+///
+/// The attempt that may be started and the least dead task are found at once. Each other call takes time logarithmic in
+/// the number of tasks, over all calls, and none but `new` takes memory.
 #[derive(Drop)]
 pub struct Twins {
     tasks: Vec<Twin>,
-    count: u32,
+    // The tasks of which none runs and that have an attempt left, and those of which one runs.
+    idle: NumberSet,
+    lone: NumberSet,
     slots: u32,
     running: u32,
+    unfinished: u32,
+    least_dead: Option<u32>,
 }
 
 impl Model for Twins {
@@ -25,7 +34,7 @@ impl Model for Twins {
 
     ghost view = { λ m. record { slots = m.slots; tasks = tasks_of m.tasks.items } };
 
-    ghost invariant = { λ m. AreTwins m.tasks.items m.count m.running };
+    ghost invariant = { λ m. AreTwins m.tasks.items m.idle m.lone m.running m.unfinished m.least_dead };
 }
 
 impl Twins {
@@ -33,51 +42,45 @@ impl Twins {
     pub fn new(alloc: Global, tasks: u32, slots: u32) -> Result<Twins, NoMemory>
         ensures { IfOk result (λ m. m ≡ fresh tasks slots) }
     {
+        let idle = NumberSet::full(alloc, tasks)?;
+        let lone = NumberSet::empty(alloc, tasks)?;
         let untried = vec![in alloc; Twin::Open(1, Pair::Neither); tasks as usize]?;
         Ok(Twins {
             tasks: untried,
-            count: tasks,
+            idle,
+            lone,
             slots,
             running: 0,
+            unfinished: tasks,
+            least_dead: None,
         })
     }
 
-    /// The least idle task, and the number of its next attempt.
+    // The least idle task, and the number of its next attempt.
     fn least_idle(&self) -> Option<(u32, u8)>
         ensures { MatchOption result ((t a : ℕ) → IsIdle self.now.tasks t a → ⊥)
             (λ r. IsIdle self.now.tasks r.0 r.1 × ((u c : ℕ) → u < r.0 → IsIdle self.now.tasks u c → ⊥)) }
     {
-        for task in 0..self.count {
-            if let Some(number) = self.tasks[task as usize].idle() {
-                return Some((task, number));
-            }
-        }
-        None
+        let task = self.idle.least()?;
+        let number = self.tasks[task as usize].idle()?;
+        Some((task, number))
     }
 
-    /// The least task of which one attempt runs and that has one left, and the number of its next attempt.
+    // The least task of which one attempt runs and that has one left, and the number of its next attempt.
     fn least_lone(&self) -> Option<(u32, u8)>
         ensures { MatchOption result ((t a : ℕ) → IsLone self.now.tasks t a → ⊥)
             (λ r. IsLone self.now.tasks r.0 r.1 × ((u c : ℕ) → u < r.0 → IsLone self.now.tasks u c → ⊥)) }
     {
-        for task in 0..self.count {
-            if let Some(number) = self.tasks[task as usize].lone() {
-                return Some((task, number));
-            }
-        }
-        None
+        let task = self.lone.least()?;
+        let number = self.tasks[task as usize].lone()?;
+        Some((task, number))
     }
 
     /// The least dead task, and `None` exactly where no task is dead.
     pub fn doomed(&self) -> Option<u32>
         ensures { MatchOption result (NoneDead self.now.tasks) (λ t. IsLeastDead self.now.tasks t) }
     {
-        for task in 0..self.count {
-            if self.tasks[task as usize].is_dead() {
-                return Some(task);
-            }
-        }
-        None
+        self.least_dead
     }
 
     /// The attempt that may be started now, and `None` exactly where none may.
@@ -93,14 +96,28 @@ impl Twins {
         }
     }
 
+    // Writes what a task has tried, where then so many attempts run.
+    fn put(&mut self, task: u32, twin: Twin, running: u32)
+        requires { MayPut self.old.tasks task (twin_tried twin) running }
+        ensures { self.new ≡ with_tried self.old task (twin_tried twin) }
+    {
+        let was = self.tasks[task as usize];
+        self.unfinished = unfinished_after(self.unfinished, was, twin);
+        self.least_dead = least_dead_after(self.least_dead, task, twin);
+        self.idle.set(task, twin.is_idle());
+        self.lone.set(task, twin.is_lone());
+        self.tasks[task as usize] = twin;
+        self.running = running;
+    }
+
     /// Starts the attempt that `ready` names.
     pub fn start(&mut self, task: u32)
         requires { (a : ℕ) × MayStartTwin self.old task a }
         ensures { (a : ℕ) → MayStartTwin self.old task a → self.new ≡ after self.old (Start task a) }
     {
         let twin = self.tasks[task as usize];
-        self.running += 1;
-        self.tasks[task as usize] = twin.started();
+        let running = self.running + 1;
+        self.put(task, twin.started(), running);
     }
 
     /// The attempt that `ready` names could not be started, which counts as its failure.
@@ -109,7 +126,8 @@ impl Twins {
         ensures { (a : ℕ) → MayStartTwin self.old task a → self.new ≡ after self.old (Refuse task a) }
     {
         let twin = self.tasks[task as usize];
-        self.tasks[task as usize] = twin.refused();
+        let running = self.running;
+        self.put(task, twin.refused(), running);
     }
 
     /// Ends this attempt, which runs. True exactly where its task becomes done by it.
@@ -119,8 +137,8 @@ impl Twins {
         ensures first { result ≡ becomes_done (tried_at self.old.tasks task) ok }
     {
         let twin = self.tasks[task as usize];
-        self.running -= 1;
-        self.tasks[task as usize] = twin.ended(number, ok);
+        let running = self.running - 1;
+        self.put(task, twin.ended(number, ok), running);
         ok && !twin.is_done()
     }
 
@@ -128,12 +146,7 @@ impl Twins {
     pub fn all_done(&self) -> bool
         ensures { IsTrue result ↔ AllDone self.now.tasks }
     {
-        for task in 0..self.count {
-            if !self.tasks[task as usize].is_done() {
-                return false;
-            }
-        }
-        true
+        self.unfinished == 0
     }
 
     /// How many attempts run.
@@ -141,6 +154,34 @@ impl Twins {
         ensures { result ≡ running_of self.now.tasks }
     {
         self.running
+    }
+}
+
+// How many tasks aren't done after one was written.
+fn unfinished_after(unfinished: u32, was: Twin, twin: Twin) -> u32
+    requires some { lacks (twin_tried was) ≤ unfinished }
+    requires done { is_done (twin_tried was) ≡ true → is_done (twin_tried twin) ≡ true }
+    ensures { result + lacks (twin_tried was) ≡ unfinished + lacks (twin_tried twin) }
+{
+    if twin.is_done() && !was.is_done() {
+        unfinished - 1
+    } else {
+        unfinished
+    }
+}
+
+// The least dead task after one was written, which wasn't dead.
+fn least_dead_after(least: Option<u32>, task: u32, twin: Twin) -> Option<u32>
+    ensures alive { is_dead (twin_tried twin) ≡ false → result ≡ least }
+    ensures dead { is_dead (twin_tried twin) ≡ true
+        → MatchOption result ⊥ (λ t. MatchOption least (t ≡ task) (λ u. t ≡ min u task)) }
+{
+    if !twin.is_dead() {
+        return least;
+    }
+    match least {
+        Some(other) => Some(other.min(task)),
+        None => Some(task),
     }
 }
 

@@ -1,28 +1,14 @@
-use Rattle.std.proofs.Common.{◌≡◌, ℕ, ◌<◌, ◌≤◌, ⊎_elim, true, [], length, refl, sym, ap, ◌∙◌, subst, arith}
-use Rattle.std.proofs.lemmas.Bool.{cases_lt, false≢true}
-use Rattle.task_core.specs.Board.{Board, Finished, is_done, tried_at}
-use Rattle.twins.specs.Tasks.{twin_tried}
-use Rattle.twins.proofs.TwinLemmas.{read_is, past, none_more}
+use Rattle.std.proofs.Common.{sym, subst, ◌∙◌, eqb-true}
+use Rattle.std.proofs.lemmas.Bool.{eq-eqb}
+use Rattle.task_core.specs.Board.{Board, AllDone}
+use Rattle.twins.specs.Tasks.{tasks_of}
+use Rattle.twins.proofs.TwinLemmas.{all_done_from_none, none_from_all_done}
 use Rattle.twins.proofs.twins.Twins.all_done.Goals as goal
-
-pub returns-then-not-is_done : goal.returns-then-not-is_done
-returns-then-not-is_done c =
-    let twins = c.self.inside.tasks.items in
-    let t = c.loop-task.task in
-    let below : t < length twins = omega (arith, c.loop-task-test.true, c.self.invariant.counted) in
-    let here : tried_at c.args.self.now.tasks t ≡ twin_tried c.index.result.now = subst (λ (k : Board). tried_at k.tasks t ≡ twin_tried c.index.result.now) c.self.view_is (read_is twins t c.index.result.now below c.index.ensures) in
-    ((λ no. absurd (false≢true no)), λ all. absurd (false≢true (sym (sym c.is_done.ensures ∙ c.if-not-is_done.true) ∙ sym (ap is_done here) ∙ all t)))
-
-pub loop-task-preserved : goal.loop-task-preserved
-loop-task-preserved c =
-    let twins = c.self.inside.tasks.items in
-    let t = c.loop-task.task in
-    let below : t < length twins = omega (arith, c.loop-task-test.true, c.self.invariant.counted) in
-    let here : tried_at c.args.self.now.tasks t ≡ twin_tried c.index.result.now = subst (λ (k : Board). tried_at k.tasks t ≡ twin_tried c.index.result.now) c.self.view_is (read_is twins t c.index.result.now below c.index.ensures) in
-    none_more (λ u. is_done (tried_at c.args.self.now.tasks u) ≡ true) t c.loop-task.invariant (ap is_done here ∙ sym c.is_done.ensures ∙ c.if-not-is_done.false)
 
 pub returns : goal.returns
 returns c =
-    let twins = c.self.inside.tasks.items in
-    let over : (u : ℕ) → c.self.inside.count ≤ u → tried_at c.args.self.now.tasks u ≡ Finished [] = λ u after. subst (λ (k : Board). tried_at k.tasks u ≡ Finished []) c.self.view_is (past twins u (omega (arith, after, c.self.invariant.counted))) in
-    ((λ yes u. ⊎_elim (λ (before : u < c.loop-task.task). c.loop-task.invariant u before) (λ (after : c.loop-task.task ≤ u). ap is_done (over u (omega (arith, after, c.loop-task-test.false)))) (cases_lt u c.loop-task.task)), λ all. refl)
+    let tasks = tasks_of c.self.inside.tasks.items in
+    let unfinished = c.self.invariant.unfinished_is in (
+      λ none. subst (λ (b : Board). AllDone b.tasks) c.self.view_is (all_done_from_none tasks (sym unfinished ∙ eqb-true _ 0 none)),
+      λ all. eq-eqb _ 0 (unfinished ∙ none_from_all_done tasks (subst (λ (b : Board). AllDone b.tasks) (sym c.self.view_is) all)),
+    )

@@ -1,29 +1,31 @@
-use Rattle.std.proofs.Common.{◌≡◌, ℕ, ◌<◌, ◌≤◌, ⊎_elim, [], ◌∷◌, length, sym, ◌∙◌, subst, arith}
-use Rattle.std.proofs.lemmas.Bool.{cases_lt}
-use Rattle.task_core.specs.Board.{Board, Finished, tried_at}
+use Rattle.std.proofs.Common.{ℕ, ◌<◌, ◌∙◌, [], ◌∷◌, sym, subst}
+use Rattle.task_core.specs.Board.{Board}
+use Rattle.task_core.specs.Rules.{below_from_open}
 use Rattle.twins.specs.Rules.{IsLone}
-use Rattle.twins.specs.Tasks.{twin_tried}
-use Rattle.twins.proofs.TwinLemmas.{read_is, past, none_more, finished_not_open}
+use Rattle.twins.specs.Tasks.{tasks_of}
+use Rattle.twins.proofs.TwinLemmas.{inside, least_is_lone, none_lone, read_is}
 use Rattle.twins.proofs.twins.Twins.least_lone.Goals as goal
 
-pub returns-in-Some : goal.returns-in-Some
-returns-in-Some c =
-    let twins = c.self.inside.tasks.items in
-    let t = c.loop-task.task in
-    let below : t < length twins = omega (arith, c.loop-task-test.true, c.self.invariant.counted) in
-    let here : tried_at c.args.self.now.tasks t ≡ twin_tried c.index.result.now = subst (λ (k : Board). tried_at k.tasks t ≡ twin_tried c.index.result.now) c.self.view_is (read_is twins t c.index.result.now below c.index.ensures) in
-    (record { one = c.in-Some.ensures.0; is = here ∙ c.in-Some.ensures.1; left = c.in-Some.ensures.2 }, λ u d before lone. c.loop-task.invariant u before d lone)
+pub returns-in_err-task : goal.returns-in_err-task
+returns-in_err-task c =
+    rw c.from_residual.ensures
+    (subst (λ (b : Board). (t a : ℕ) → IsLone b.tasks t a → ⊥) c.self.view_is (none_lone (tasks_of c.self.inside.tasks.items) c.self.inside.lone c.self.invariant.lone_is c.in_err-task.ensures))
 
-pub loop-task-preserved : goal.loop-task-preserved
-loop-task-preserved c =
+pub returns-in_err-number : goal.returns-in_err-number
+returns-in_err-number c =
     let twins = c.self.inside.tasks.items in
-    let t = c.loop-task.task in
-    let below : t < length twins = omega (arith, c.loop-task-test.true, c.self.invariant.counted) in
-    let here : tried_at c.args.self.now.tasks t ≡ twin_tried c.index.result.now = subst (λ (k : Board). tried_at k.tasks t ≡ twin_tried c.index.result.now) c.self.view_is (read_is twins t c.index.result.now below c.index.ensures) in
-    none_more (λ u. (d : ℕ) → IsLone c.args.self.now.tasks u d → ⊥) t c.loop-task.invariant (λ d lone. c.in_default.ensures d lone.one lone.left (sym here ∙ lone.is))
+    let t = c.in_ok-task.task in
+    let found = least_is_lone (tasks_of twins) c.self.inside.lone t c.self.invariant.lone_is c.in_ok-task.ensures in
+    let here = found.0.1 in
+    let read = read_is twins t c.index.result.now (inside twins t (below_from_open (tasks_of twins) t found.0.0 (here.one ∷ []) here.is)) c.index.ensures in
+    absurd (c.in_err-number.ensures found.0.0 here.one here.left (sym read ∙ here.is))
 
 pub returns : goal.returns
 returns c =
     let twins = c.self.inside.tasks.items in
-    let over : (u : ℕ) → c.self.inside.count ≤ u → tried_at c.args.self.now.tasks u ≡ Finished [] = λ u after. subst (λ (k : Board). tried_at k.tasks u ≡ Finished []) c.self.view_is (past twins u (omega (arith, after, c.self.invariant.counted))) in
-    λ u d lone. ⊎_elim (λ (before : u < c.loop-task.task). c.loop-task.invariant u before d lone) (λ (after : c.loop-task.task ≤ u). finished_not_open c.args.self.now.tasks u d (lone.one ∷ []) (over u (omega (arith, after, c.loop-task-test.false))) lone.is) (cases_lt u c.loop-task.task)
+    let t = c.in_ok-task.task in
+    let found = least_is_lone (tasks_of twins) c.self.inside.lone t c.self.invariant.lone_is c.in_ok-task.ensures in
+    let here = found.0.1 in
+    let read = read_is twins t c.index.result.now (inside twins t (below_from_open (tasks_of twins) t found.0.0 (here.one ∷ []) here.is)) c.index.ensures in
+    let lone : IsLone (tasks_of twins) t c.in_ok-number.number = record { one = c.in_ok-number.ensures.0; is = read ∙ c.in_ok-number.ensures.1; left = c.in_ok-number.ensures.2 } in
+    subst (λ (b : Board). IsLone b.tasks t c.in_ok-number.number × ((u d : ℕ) → u < t → IsLone b.tasks u d → ⊥)) c.self.view_is (lone, found.1)
