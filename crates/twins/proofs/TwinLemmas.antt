@@ -1,6 +1,6 @@
 -- The fields of `Twins` through a write of a task, and what its queues say of the board.
 use Rattle.std.proofs.Common.{zero, suc, Option, Some, None, MatchOption, ◌≡◌, ℕ, ◌+◌, ◌-◌, ◌<◌, ◌≤◌, inl, inr, ⊎_elim, Bool, true, false, cond, eqb, List, [], ◌∷◌, length, get_or, map, set, replicate, sum_by, min, refl, sym, ap, ◌∙◌, subst, arith, leb-true, le-leb}
-use Rattle.std.specs.Option.{is_some}
+use Rattle.std.specs.Option.{is_some, option_or}
 use Rattle.std.proofs.lemmas.Bool.{cases_Bool, cases_eq, cases_lt, false≢true}
 use Rattle.std.proofs.lemmas.List.{map-set, get_or_default, get_or-replicate, get_or_past, length-map, length-replicate}
 use Rattle.std.proofs.lemmas.List.Folds.{sum_by-replicate}
@@ -234,12 +234,16 @@ pub doomed_none : (o : Option ℕ) (P : Type 0) (Q : ℕ → Type 0) → is_some
 doomed_none None P Q is match' = match'
 doomed_none (Some t) P Q is match' = absurd cc
 
--- where no task is idle
-pub second_or_busy : (o : Option (ℕ × ℕ)) (b : Board) → running_of b.tasks < b.slots → NoneDead b.tasks → ((t a : ℕ) → IsIdle b.tasks t a → ⊥) → MatchOption o ((t a : ℕ) → IsLone b.tasks t a → ⊥) (λ r. IsLone b.tasks r.0 r.1 × ((u c : ℕ) → u < r.0 → IsLone b.tasks u c → ⊥)) → MatchOption o (IsBusy MayStartTwin b) (λ r. MayStartTwin b r.0 r.1)
-second_or_busy None b slot alive none_idle none = λ t a may.
-    ⊎_elim (λ (first : MayStart b t a). none_idle t a first.idle) (λ (second : MayStartSecond b t a). none t a second.lone) may
-second_or_busy (Some r) b slot alive none_idle found =
-    inr (record { free = record { slot = slot; none_dead = alive }; none_idle = none_idle; lone = found.0; least = found.1 })
+-- the least of a kind of tasks with its number, or there is none
+abbrev Finds : (ℕ → ℕ → Type 0) → Option (ℕ × ℕ) → Type 0
+Finds Is o = MatchOption o ((t a : ℕ) → Is t a → ⊥) (λ r. Is r.0 r.1 × ((u c : ℕ) → u < r.0 → Is u c → ⊥))
+
+-- what may be started, where a slot is free and no task is dead
+pub first_or_second : (o p : Option (ℕ × ℕ)) (b : Board) → running_of b.tasks < b.slots → NoneDead b.tasks → Finds (IsIdle b.tasks) o → Finds (IsLone b.tasks) p → MatchOption (option_or o p) (IsBusy MayStartTwin b) (λ r. MayStartTwin b r.0 r.1)
+first_or_second (Some r) p b slot alive idle lone = inl (record { free = record { slot = slot; none_dead = alive }; idle = idle.0; least = idle.1 })
+first_or_second None (Some r) b slot alive idle lone = inr (record { free = record { slot = slot; none_dead = alive }; none_idle = idle; lone = lone.0; least = lone.1 })
+first_or_second None None b slot alive idle lone = λ t a may.
+    ⊎_elim (λ (first : MayStart b t a). idle t a first.idle) (λ (second : MayStartSecond b t a). lone t a second.lone) may
 
 -- ---- all done
 

@@ -2,6 +2,9 @@ ghost use Rattle.std.specs.Prelude.{◌≡◌, ◌≢◌, ℕ, ◌≤◌, List, 
 ghost use Rattle.task_core.specs.Board.{Open, ended, is_dead, is_done, refused, started, without};
 ghost use Rattle.twins.specs.Tasks.{is_idle, is_lone, list_of, twin_tried};
 
+/// An attempt of this number is the last one of its task.
+const LAST: u8 = 4;
+
 /// The attempts of a task that run, by their numbers.
 #[derive(Clone, Copy)]
 pub enum Pair {
@@ -56,7 +59,7 @@ impl Twin {
             (λ a. (twin_tried self ≡ Open a []) × (a ≤ 4)) }
     {
         match self {
-            Twin::Open(next, Pair::Neither) if next <= 4 => Some(next),
+            Twin::Open(next, Pair::Neither) if next <= LAST => Some(next),
             _ => None,
         }
     }
@@ -65,14 +68,14 @@ impl Twin {
     pub(crate) fn is_idle(self) -> bool
         ensures { result ≡ is_idle (twin_tried self) }
     {
-        matches!(self, Twin::Open(next, Pair::Neither) if next <= 4)
+        matches!(self, Twin::Open(next, Pair::Neither) if next <= LAST)
     }
 
     /// Whether just one runs and one is left.
     pub(crate) fn is_lone(self) -> bool
         ensures { result ≡ is_lone (twin_tried self) }
     {
-        matches!(self, Twin::Open(next, Pair::One(_)) if next <= 4)
+        matches!(self, Twin::Open(next, Pair::One(_)) if next <= LAST)
     }
 
     /// The number of its next attempt, where just one runs and one is left.
@@ -81,7 +84,7 @@ impl Twin {
             (λ a. (one : ℕ) × (twin_tried self ≡ Open a (one ∷ [])) × (a ≤ 4)) }
     {
         match self {
-            Twin::Open(next, Pair::One(_)) if next <= 4 => Some(next),
+            Twin::Open(next, Pair::One(_)) if next <= LAST => Some(next),
             _ => None,
         }
     }
@@ -140,7 +143,7 @@ impl Twin {
         ensures { result ≡ is_dead (twin_tried self) }
     {
         match self {
-            Twin::Open(next, Pair::Neither) => next >= 5,
+            Twin::Open(next, Pair::Neither) => next > LAST,
             _ => false,
         }
     }

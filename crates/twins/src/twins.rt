@@ -83,17 +83,17 @@ impl Twins {
         self.least_dead
     }
 
-    /// The attempt that may be started now, and `None` exactly where none may.
+    /// The attempt that may be started now, and `None` exactly where none may: the next one of the least task of which none
+    /// runs, and where no such task has an attempt left, the next one of the least task of which one runs.
     pub fn ready(&self) -> Option<(u32, u8)>
         ensures { MatchOption result (IsBusy MayStartTwin self.now) (λ r. MayStartTwin self.now r.0 r.1) }
     {
         if self.running >= self.slots || self.doomed().is_some() {
             return None;
         }
-        match self.least_idle() {
-            Some(found) => Some(found),
-            None => self.least_lone(),
-        }
+        let idle = self.least_idle();
+        let lone = self.least_lone();
+        idle.or(lone)
     }
 
     // Writes what a task has tried, where then so many attempts run.
@@ -219,3 +219,6 @@ impl Attempting for Twins {
         Twins::running(self)
     }
 }
+
+#[cfg(test)]
+mod tests;
