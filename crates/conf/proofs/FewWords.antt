@@ -87,7 +87,7 @@ distinct words command zero all = tt
 distinct words command (suc m) all =
     (apart words command m m all (omega arith), distinct words command m (λ i h. all i (omega arith)))
 
-below : (words : List (List ℕ)) (command : Command) (m : ℕ) → AllGive words command m → (q : ℕ) → list_any (eqb q) (options_of words command m) ≡ true → q < 12
+below : (words : List (List ℕ)) (command : Command) (m : ℕ) → AllGive words command m → (q : ℕ) → list_any (eqb q) (options_of words command m) ≡ true → q < 13
 unfolding AllGive
 below words command zero all q h = absurd (true≢false (sym h))
 below words command (suc m) all q h =
@@ -98,9 +98,9 @@ below words command (suc m) all q h =
       | inr isnt ↦ below words command m (λ i b. all i (omega arith)) q (rw isnt at h)
     ]
 
-few : (words : List (List ℕ)) (command : Command) (m : ℕ) → AllGive words command m → m ≤ 12
+few : (words : List (List ℕ)) (command : Command) (m : ℕ) → AllGive words command m → m ≤ 13
 few words command m all =
-    let n = length-le_from_distinct_below (options_of words command m) 12 (distinct words command m all) (below words command m all) in
+    let n = length-le_from_distinct_below (options_of words command m) 13 (distinct words command m all) (below words command m all) in
     let e = length-options_of words command m in omega arith
 
 -- ---- from the rules
@@ -125,14 +125,14 @@ gives_some words command k (Some c) is h =
     some_same : {c command : Command} → Some c ≡ Some command → c ≡ command
     some_same e = cc
 
--- at most twelve options, after three words
-few_options : (words : List (List ℕ)) (m : ℕ) (named : Option Command) → command_of words ≡ named → not (is_some named) ≡ false → ((i : ℕ) → i < m → refuses_word words (3 + i) ≡ false) → m ≤ 12
+-- at most thirteen options, after three words
+few_options : (words : List (List ℕ)) (m : ℕ) (named : Option Command) → command_of words ≡ named → not (is_some named) ≡ false → ((i : ℕ) → i < m → refuses_word words (3 + i) ≡ false) → m ≤ 13
 unfolding AllGive
 few_options words m None is some all = absurd (true≢false some)
 few_options words m (Some command) is some all =
     few words command m (λ i h. gives_some words command (3 + i) (command_of words) is (sym (option_rules words i) ∙ all i h))
 
-pub few_words : (words : List (List ℕ)) (k : ℕ) → ((j : ℕ) → j < k → refuses_word words j ≡ false) → k ≤ 15
+pub few_words : (words : List (List ℕ)) (k : ℕ) → ((j : ℕ) → j < k → refuses_word words j ≡ false) → k ≤ 16
 few_words words k all =
     elim (cases_Bool (nat_lt k 4)) [
       | inl small ↦ grind (arith, nat_tests)

@@ -17,8 +17,8 @@ pub record FitsTypes (conf : Conf) : Type 0 where
   pub hops : conf.hops < 2 ^ 64
   pub seed : conf.seed < 2 ^ 64
 
--- the confs are the same in all that the text shows, which is all but `slots`, `spill`, the generator, and the options that
--- the form or the command doesn't have
+-- the confs are the same in all that the text shows, which is all but `slots`, `spill`, `backup`, the generator, and the
+-- options that the form or the command doesn't have
 pub record ShowTheSame (a b : Conf) : Type 0 where
   pub command : a.command ≡ b.command
   pub nodes : a.nodes ≡ b.nodes

@@ -1,5 +1,5 @@
 -- Where the words of the command line give an option. They are numbered from 0: WORK EDGES COMMAND and options.
-use Rattle.std.specs.Prelude.{ℕ, ◌+◌, ◌==◌, Bool, false, List, [], ◌∷◌, Option, Some, None, option_and_then, is_some, length, take, drop, slice_index_or, if◌then◌else◌}
+use Rattle.std.specs.Prelude.{ℕ, ◌+◌, ◌==◌, Bool, false, List, [], ◌∷◌, Option, Some, None, option_and_then, is_some, drop, if◌then◌else◌}
 use Rattle.std.specs.Option.{option_map_or}
 use Rattle.words.specs.Words.{after_prefix, word_at}
 use Rattle.conf.specs.declared.settings.Setting.{Setting}

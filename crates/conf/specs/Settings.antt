@@ -1,5 +1,5 @@
 -- The options, the commands that take them, and the values that they take.
-use Rattle.std.specs.Prelude.{ℕ, ◌+◌, ◌-◌, ◌^◌, ◌==◌, Bool, true, false, ◌&&◌, List, [], ◌∷◌, Option, Some, None, option_and_then, option_map, is_some, position, take, drop, codes, nat_le, if◌then◌else◌}
+use Rattle.std.specs.Prelude.{ℕ, ◌+◌, ◌-◌, ◌^◌, ◌==◌, Bool, true, false, List, [], ◌∷◌, Option, Some, None, option_and_then, option_map, is_some, position, take, drop, codes, if◌then◌else◌}
 use Rattle.peg_text.specs.Decimal.{decimal_of}
 use Rattle.words.specs.Words.{is_word, number_between}
 use Rattle.conf.specs.declared.commands.Command.{Command}
@@ -7,12 +7,12 @@ use Rattle.conf.specs.declared.commands.Command.TheVariants.{Plain, Hcc, Hadi, P
 use Rattle.conf.specs.declared.settings.Number.{Number}
 use Rattle.conf.specs.declared.settings.Number.TheVariants.{Nodes, Reducers, Split, Slots, Spill, BlockLength, Iters, Hops, Seed}
 use Rattle.conf.specs.declared.settings.Setting.{Setting}
-use Rattle.conf.specs.declared.settings.Setting.TheVariants.{Numeric, Gen, FormName, Sym}
+use Rattle.conf.specs.declared.settings.Setting.TheVariants.{Numeric, Gen, FormName, Sym, Backup}
 use Rattle.conf.specs.Commands.{is_mining, form_named}
 
 abbrev pub settings : List Setting
 settings =
-    Numeric Nodes ∷ Gen ∷ Numeric Reducers ∷ Numeric Split ∷ Numeric Slots ∷ Numeric Spill ∷ FormName ∷ Numeric BlockLength ∷ Numeric Iters ∷ Numeric Hops ∷ Numeric Seed ∷ Sym ∷ []
+    Numeric Nodes ∷ Gen ∷ Numeric Reducers ∷ Numeric Split ∷ Numeric Slots ∷ Numeric Spill ∷ FormName ∷ Numeric BlockLength ∷ Numeric Iters ∷ Numeric Hops ∷ Numeric Seed ∷ Sym ∷ Backup ∷ []
 
 -- what a word of this option begins with
 abbrev pub prefix_of : Setting → List ℕ
@@ -28,6 +28,7 @@ prefix_of (Numeric Seed) = codes "seed="
 prefix_of Gen = codes "gen="
 prefix_of FormName = codes "form="
 prefix_of Sym = codes "sym="
+prefix_of Backup = codes "backup="
 
 abbrev pub is_hadi : Command → Bool
 is_hadi Plain = false
@@ -55,6 +56,7 @@ has_setting command (Numeric Seed) = is_hadi command
 has_setting command Gen = true
 has_setting command FormName = is_mining command
 has_setting command Sym = is_hadi command
+has_setting command Backup = is_mining command
 
 -- the least, the greatest and the default value of an option that is a number
 abbrev pub least_of : Number → ℕ
@@ -123,3 +125,4 @@ is_value command (Numeric number) text = is_some (number_for number text)
 is_value command Gen text = is_some (generator_in text)
 is_value command FormName text = is_some (form_named command text)
 is_value command Sym text = is_some (choice_in text)
+is_value command Backup text = is_some (choice_in text)

@@ -1,6 +1,6 @@
 ghost use Rattle.std.specs.Prelude.{◌≡◌, ◌≤◌, ℕ, map, IfErr, IfNone, IfOk, IfSome, IsOk, Err};
 ghost use Rattle.std.specs.String.{string_bytes};
-ghost use Rattle.conf.specs.Meaning.{Mean, conf_of, generated_of, number_of, sym_of};
+ghost use Rattle.conf.specs.Meaning.{Mean, choice_of, conf_of, generated_of, number_of};
 ghost use Rattle.conf.specs.Rules.{AreAccepted, IsLeastRefused, form_of};
 ghost use Rattle.conf.specs.Settings.{most_of};
 
@@ -24,6 +24,8 @@ pub struct Conf {
     pub slots: u32,
     /// The bytes of pairs that a job holds before it writes a run, 1,024 to 2^30.
     pub spill: u64,
+    /// Whether two attempts of a task run at once where a slot would stay free.
+    pub backup: bool,
     /// How the jobs lay out the matrix and the vector.
     pub form: Form,
     /// The nodes of a block, 1 to 256.
@@ -74,11 +76,11 @@ fn number_of(words: &[String], number: Number) -> u64
     given.unwrap_or(number.default_value())
 }
 
-/// Whether the words say that HADI takes each edge in both directions.
-fn sym_of(words: &[String]) -> bool
-    ensures { result ≡ sym_of (map string_bytes words.now) }
+/// Whether the words say `yes` to an option whose value is `yes` or `no`.
+fn choice_of(words: &[String], setting: Setting) -> bool
+    ensures { result ≡ choice_of (map string_bytes words.now) setting }
 {
-    match value_of(words, Setting::Sym) {
+    match value_of(words, setting) {
         Some(text) => read_choice(text).unwrap_or(false),
         None => false,
     }
@@ -105,12 +107,13 @@ fn conf_of(words: &[String], command: Command) -> Conf
         split: number_of(words, Number::Split),
         slots: number_of(words, Number::Slots) as u32,
         spill: number_of(words, Number::Spill),
+        backup: choice_of(words, Setting::Backup),
         form: form_of(words, command).unwrap_or(Form::Base),
         block: number_of(words, Number::BlockLength) as u32,
         iters: number_of(words, Number::Iters) as u32,
         hops: number_of(words, Number::Hops) as u32,
         seed: number_of(words, Number::Seed),
-        sym: sym_of(words),
+        sym: choice_of(words, Setting::Sym),
         generated: generated_of(words),
     }
 }

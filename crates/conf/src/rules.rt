@@ -8,7 +8,7 @@ use crate::settings::{Number, Setting};
 use words::bytes_at;
 
 /// All options.
-const SETTINGS: [Setting; 12] = [
+const SETTINGS: [Setting; 13] = [
     Setting::Numeric(Number::Nodes),
     Setting::Gen,
     Setting::Numeric(Number::Reducers),
@@ -21,6 +21,7 @@ const SETTINGS: [Setting; 12] = [
     Setting::Numeric(Number::Hops),
     Setting::Numeric(Number::Seed),
     Setting::Sym,
+    Setting::Backup,
 ];
 
 /// The most nodes of `plain`, and of the clustered form, which hold something of each node in memory: 2^27.

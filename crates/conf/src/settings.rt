@@ -39,6 +39,8 @@ pub enum Setting {
     FormName,
     /// Whether HADI takes each edge in both directions: `yes` or `no`.
     Sym,
+    /// Whether two attempts of a task run at once where a slot would stay free: `yes` or `no`.
+    Backup,
 }
 
 /// The most edges that can be generated.
@@ -112,6 +114,7 @@ impl Setting {
             Setting::Gen => b"gen=",
             Setting::FormName => b"form=",
             Setting::Sym => b"sym=",
+            Setting::Backup => b"backup=",
         }
     }
 
@@ -137,7 +140,7 @@ impl Setting {
             Setting::Numeric(number) => number.read(text).is_some(),
             Setting::Gen => read_generator(text).is_some(),
             Setting::FormName => Form::named(command, text).is_some(),
-            Setting::Sym => read_choice(text).is_some(),
+            Setting::Sym | Setting::Backup => read_choice(text).is_some(),
         }
     }
 }

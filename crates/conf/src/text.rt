@@ -73,8 +73,8 @@ fn write_own(alloc: Global, out: &mut Vec<u8>, conf: &Conf) -> Result<(), NoMemo
 
 /// The text of a conf, version 1: a line for each thing that the committed bytes depend on.
 ///
-/// `slots`, `spill` and the generator of edges change none of these bytes, or are compared as edges, and aren't in it;
-/// nor are the options that the command or the form doesn't have. `plain` commits nothing, and has no text.
+/// `slots`, `spill`, `backup` and the generator of edges change none of these bytes, or are compared as edges, and
+/// aren't in it; nor are the options that the command or the form doesn't have. `plain` commits nothing, and has no text.
 pub fn conf_text(alloc: Global, conf: &Conf) -> Result<Vec<u8>, NoMemory>
     requires { conf.now.command ≢ Command.Plain }
     ensures { IfOk result (λ text. text.items ≡ text_of conf.now) }

@@ -1,5 +1,5 @@
 -- The folders of a small graph: three nodes on a path, two joined by an edge, and one alone.
-use Rattle.std.specs.Prelude.{◌≡◌, true, [], ◌∷◌, codes, Some, None}
+use Rattle.std.specs.Prelude.{◌≡◌, true, false, [], ◌∷◌, codes, Some, None}
 use Rattle.graph.specs.Examples.{three_edges}
 use Rattle.conf.specs.declared.commands.Command.TheVariants.{Hcc}
 use Rattle.conf.specs.declared.commands.Form.TheVariants.{Base}
@@ -20,6 +20,7 @@ small_conf =
       split = 4;
       slots = 1;
       spill = 1024;
+      backup = false;
       form = Base;
       block = 1;
       iters = 1;

@@ -17,6 +17,7 @@ fn small(command: Command) -> Conf
         split: 67_108_864,
         slots: 4,
         spill: 16_777_216,
+        backup: false,
         form: Form::Base,
         block: 16,
         iters: 10,

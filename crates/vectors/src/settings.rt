@@ -34,6 +34,7 @@ const SMALL: Conf = Conf {
     split: 67_108_864,
     slots: 4,
     spill: 16_777_216,
+    backup: false,
     form: Form::Base,
     block: 16,
     iters: 10,
@@ -64,6 +65,8 @@ fn least_refused_word_is_named(rt: HostRuntime) -> Result<(), Fail> {
         ("w e pagerank nodes=2 hops=3", Some(4)),
         ("w e pagerank nodes=2 form=diagonal", Some(4)),
         ("w e hadi nodes=2 sym=maybe", Some(4)),
+        ("w e hcc nodes=2 backup=maybe", Some(4)),
+        ("w e plain nodes=2 backup=yes", Some(4)),
         ("w e plain nodes=2 slots=2", Some(4)),
         ("w e plain nodes=2 form=base", Some(4)),
     ] {
@@ -149,6 +152,7 @@ fn values_are_accepted_up_to_their_limits(rt: HostRuntime) -> Result<(), Fail> {
             ["", "18446744073709551616"],
         ),
         ("w e hadi nodes=6 sym=", ["yes", "no"], ["", "y"]),
+        ("w e hcc nodes=6 backup=", ["yes", "no"], ["", "y"]),
         (
             "w - hcc nodes=6 gen=",
             ["0:0", "100000000:18446744073709551615"],
@@ -187,13 +191,14 @@ fn what_no_word_says_is_the_default(rt: HostRuntime) -> Result<(), Fail> {
         split: 5,
         slots: 1,
         spill: 2048,
+        backup: true,
         iters: 2,
         ..SMALL
     };
     assert_eq!(rt;
         conf_of(
             alloc,
-            "w e pagerank nodes=06 reducers=3 split=5 slots=1 spill=2048 iters=2"
+            "w e pagerank nodes=06 reducers=3 split=5 slots=1 spill=2048 backup=yes iters=2"
         )?,
         ranks
     );
