@@ -19,7 +19,7 @@ mod tasks;
 mod turns;
 
 pub use fault::JobFault;
-pub use phase::{Alone, Phases, run_phase};
+pub use phase::{Alone, Phases, run_phase, run_phase_over};
 pub use run::{run_job, run_job_over};
 pub use shuffling::{ShuffleFault, shuffle};
 pub use spec::{JobReport, JobSpec};

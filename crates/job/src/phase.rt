@@ -76,8 +76,13 @@ pub(crate) fn run_over<S: Site, A: Attempting, V: Delivery>(
     }
 }
 
-/// Runs the tasks of one phase over a fresh machine.
-fn run_fresh<S: Site, A: Attempting>(
+/// Runs the tasks of one phase of a job over a machine of attempts in which each task is untried, and answers how many
+/// attempts were made.
+///
+/// `folder` is the job's, `words` are what each child runs, and `attempts` says which attempt of which of the `tasks`,
+/// at most 524,288, is started where fewer than `slots` children run. What is committed and what a refusal leaves is
+/// as `run_phase` tells.
+pub fn run_phase_over<S: Site, A: Attempting>(
     alloc: Global,
     site: &mut S,
     folder: &Path,
@@ -188,7 +193,7 @@ impl Phases for Alone {
         slots: u32,
     ) -> Result<u32, JobFault> {
         let mut attempts = Attempts::new(alloc, tasks, slots)?;
-        run_fresh(
+        run_phase_over(
             alloc,
             site,
             folder,

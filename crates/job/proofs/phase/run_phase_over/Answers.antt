@@ -8,7 +8,7 @@ use Rattle.job.specs.Ran.{Ran}
 use Rattle.job.proofs.Places.{homes_of_tasks}
 use Rattle.job.proofs.PhaseLemmas.{fits_fresh, stands_fresh, fresh_none_dead}
 use Rattle.job.proofs.LogLemmas.{ran_tells}
-use Rattle.job.proofs.phase.run_fresh.Goals as goal
+use Rattle.job.proofs.phase.run_phase_over.Goals as goal
 
 pub run_over-requires-clause-alive : goal.run_over-requires-clause-alive
 run_over-requires-clause-alive g c =
