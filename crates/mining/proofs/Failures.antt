@@ -15,7 +15,7 @@ use Rattle.dir_disk.specs.Moments.{Told}
 use Rattle.dir_disk.specs.Children.{Given, Seen}
 use Rattle.dir_disk.specs.declared.site.LogEntry.{LogEntry}
 use Rattle.dir_disk.specs.declared.site.LogEntry.TheVariants.{Started, StartFailed, Ended}
-use Rattle.task_core.specs.Board.{MayStart, is_success}
+use Rattle.task_core.specs.Board.{Rule, is_success}
 use Rattle.conf.specs.declared.reading.Conf.{Conf as Settings}
 use Rattle.job.specs.declared.fault.JobFault.{JobFault}
 use Rattle.job.specs.declared.fault.JobFault.TheVariants as Job
@@ -36,7 +36,7 @@ use Rattle.committer.specs.declared.fault.CommitFault.{CommitFault}
 use Rattle.committer.specs.declared.fault.CommitFault.TheVariants as Commit
 use Rattle.mining.specs.Stops.{of_commit, of_job}
 use Rattle.mining.specs.Failures.{IsCutOff, IsFirstFailed, IsOfNoTask, NoneFailed, TellsOfAnswer, TellsOfStop}
-use Rattle.mining.specs.Jobs.{AreJobsOf, FinishesWithin, GainsWithin, IsOfForm, Job, Rise}
+use Rattle.mining.specs.Jobs.{AreJobsOf, FinishesWithin, GainsWithin, IsOfForm, Job, Rise, rule_of}
 use Rattle.mining.proofs.Names.{same_name}
 use Rattle.mining.proofs.JobsAfter.{rise_less}
 
@@ -72,19 +72,19 @@ of_part : (low high : ℕ) (w : Work) (entries : List LogEntry) → IsWithin low
 of_part low high w entries here each =
     each_map (IsEntryOf w) (NamesWithin low high) entries (λ entry is. subst (IsWithin low high) (sym is.job) here) each
 
-any_within : (tells : Type 0) (told : Told) (low high : ℕ) (parts : List Part) (entries : List LogEntry) (given : List Given) → AnyRun MayStart tells told parts entries given → AllByRecursion (λ p. IsWithin low high p.work.folder) parts → AllByRecursion (NamesWithin low high) entries
-any_within tells told low high [] entries given none each =
+any_within : (S : Rule) (tells : Type 0) (told : Told) (low high : ℕ) (parts : List Part) (entries : List LogEntry) (given : List Given) → AnyRun S tells told parts entries given → AllByRecursion (λ p. IsWithin low high p.work.folder) parts → AllByRecursion (NamesWithin low high) entries
+any_within S tells told low high [] entries given none each =
     subst (AllByRecursion (NamesWithin low high)) (sym none.0) tt
-any_within tells told low high (p ∷ ps) entries given (inl stretch) each =
+any_within S tells told low high (p ∷ ps) entries given (inl stretch) each =
     of_part low high p.work entries each.0 stretch.of_work
-any_within tells told low high (p ∷ ps) entries given (inr (cut, rest)) each =
-    subst (AllByRecursion (NamesWithin low high)) (sym cut.parts) (each_append (NamesWithin low high) cut.first cut.rest (of_part low high p.work cut.first each.0 cut.stretch.of_work) (any_within tells told low high ps cut.rest cut.more rest each.1))
+any_within S tells told low high (p ∷ ps) entries given (inr (cut, rest)) each =
+    subst (AllByRecursion (NamesWithin low high)) (sym cut.parts) (each_append (NamesWithin low high) cut.first cut.rest (of_part low high p.work cut.first each.0 cut.stretch.of_work) (any_within S tells told low high ps cut.rest cut.more rest each.1))
 
-all_within : (tells : Type 0) (told : Told) (low high : ℕ) (parts : List Part) (entries : List LogEntry) (given : List Given) → AllRun MayStart tells told parts entries given → AllByRecursion (λ p. IsWithin low high p.work.folder) parts → AllByRecursion (NamesWithin low high) entries
-all_within tells told low high [] entries given none each =
+all_within : (S : Rule) (tells : Type 0) (told : Told) (low high : ℕ) (parts : List Part) (entries : List LogEntry) (given : List Given) → AllRun S tells told parts entries given → AllByRecursion (λ p. IsWithin low high p.work.folder) parts → AllByRecursion (NamesWithin low high) entries
+all_within S tells told low high [] entries given none each =
     subst (AllByRecursion (NamesWithin low high)) (sym none.0) tt
-all_within tells told low high (p ∷ ps) entries given (cut, rest) each =
-    subst (AllByRecursion (NamesWithin low high)) (sym cut.parts) (each_append (NamesWithin low high) cut.first cut.rest (of_part low high p.work cut.first each.0 cut.stretch.of_work) (all_within tells told low high ps cut.rest cut.more rest each.1))
+all_within S tells told low high (p ∷ ps) entries given (cut, rest) each =
+    subst (AllByRecursion (NamesWithin low high)) (sym cut.parts) (each_append (NamesWithin low high) cut.first cut.rest (of_part low high p.work cut.first each.0 cut.stretch.of_work) (all_within S tells told low high ps cut.rest cut.more rest each.1))
 
 -- ---- failed attempts
 
@@ -258,8 +258,8 @@ module _ (tells : Type 0) (gives : List (List ℕ) → List ℕ → List ℕ) (c
       let one : gained old.log between.log ≡ xs = gained_is old between xs first.log.log in
       let other : gained between.log new.log ≡ ys = gained_is between new ys next.log.log in
       let both : gained old.log new.log ≡ xs ++ ys = gained_is old new (xs ++ ys) (next.log.log ∙ ap (λ (l : List LogEntry). l ++ ys) first.log.log ∙ append_assoc old.log xs ys) in
-      let here : AllByRecursion (NamesWithin from mid) xs = all_within tells d from mid first.log.parts xs first.log.given first.log.run (parts_within tells gives d conf from first.jobs mid first.specs first.log.parts first.rise first.each first.are first.log.of_jobs) in
-      let there : AllByRecursion (NamesWithin to until) ys = any_within tells e to until next.log.parts ys next.log.given next.log.run (parts_within tells gives e conf to next.jobs until next.specs next.log.parts next.rise next.each next.are next.log.of_jobs) in
+      let here : AllByRecursion (NamesWithin from mid) xs = all_within (rule_of conf) tells d from mid first.log.parts xs first.log.given first.log.run (parts_within tells gives d conf from first.jobs mid first.specs first.log.parts first.rise first.each first.are first.log.of_jobs) in
+      let there : AllByRecursion (NamesWithin to until) ys = any_within (rule_of conf) tells e to until next.log.parts ys next.log.given next.log.run (parts_within tells gives e conf to next.jobs until next.specs next.log.parts next.rise next.each next.are next.log.of_jobs) in
       subst (λ (l : List LogEntry). TellsOfAnswer l result) (sym both) (answer_sum from mid to until less xs here (subst NoneFailed one none) ys there result (subst (λ (l : List LogEntry). TellsOfAnswer l result) other told))
 
   pub stop_then : (from mid to until : ℕ) (stop : Stop) → mid ≤ to → FinishesWithin tells gives conf from mid old between had have d → GainsWithin tells gives conf to until between new have has e → NoneFailed (gained old.log between.log) → TellsOfStop (gained between.log new.log) stop → TellsOfStop (gained old.log new.log) stop
@@ -299,6 +299,6 @@ module _ (folder : Names) (entries : List LogEntry) (each : AllByRecursion (λ e
   job_none report told = few_none_of folder entries each told.1
 
 -- the entries of a job name its folder
-pub job_names : (tells : Type 0) (gives : List (List ℕ) → List ℕ → List ℕ) (folder : Names) (plan : Plan) (slots : ℕ) (old new : Seen) (had has : List Given) (e : Told) (result : Result JobReport JobFault) → JobLog MayStart tells gives folder plan slots old new had has e result → AllByRecursion (λ entry. (tried entry).task.job ≡ folder) (gained old.log new.log)
-job_names tells gives folder plan slots old new had has e result log =
+pub job_names : (S : Rule) (tells : Type 0) (gives : List (List ℕ) → List ℕ → List ℕ) (folder : Names) (plan : Plan) (slots : ℕ) (old new : Seen) (had has : List Given) (e : Told) (result : Result JobReport JobFault) → JobLog S tells gives folder plan slots old new had has e result → AllByRecursion (λ entry. (tried entry).task.job ≡ folder) (gained old.log new.log)
+job_names S tells gives folder plan slots old new had has e result log =
     subst (AllByRecursion (λ entry. (tried entry).task.job ≡ folder)) (sym (gained_is old new (log.maps ++ log.reduces) log.log)) (each_append (λ entry. (tried entry).task.job ≡ folder) log.maps log.reduces (each_map (IsEntryOf (work_of folder Map plan.map_words log.count)) (λ entry. (tried entry).task.job ≡ folder) log.maps (λ entry is. is.job) log.of_maps) (each_map (IsEntryOf (work_of folder Reduce plan.reduce_words plan.reducers)) (λ entry. (tried entry).task.job ≡ folder) log.reduces (λ entry is. is.job) log.of_reduces))

@@ -8,7 +8,7 @@ use Rattle.dir_disk.specs.State.{Content, IsSound, State}
 use Rattle.dir_disk.specs.Moments.{Moment, Told, Through, files}
 use Rattle.dir_disk.specs.Children.{Given, Seen}
 use Rattle.dir_disk.specs.declared.site.LogEntry.{LogEntry}
-use Rattle.task_core.specs.Board.{MayStart}
+use Rattle.task_core.specs.Board.{Rule}
 use Rattle.conf.specs.declared.reading.Conf.{Conf as Settings}
 use Rattle.job.specs.declared.fault.JobFault.{JobFault}
 use Rattle.job.specs.declared.spec.JobReport.{JobReport}
@@ -25,7 +25,7 @@ use Rattle.mining.specs.declared.place.Place.TheVariants.{Matrix, Messages, Vect
 use Rattle.mining.specs.Places.{folder_of, IsInTable, is_made, is_sealed, rank_of}
 use Rattle.mining.specs.Between.{IsSure}
 use Rattle.mining.specs.Making.{IsJobOf}
-use Rattle.mining.specs.Jobs.{AreJobsOf, FinishesWithin, GainsWithin, IsOfForm, Job, JobsWithin, Rise}
+use Rattle.mining.specs.Jobs.{AreJobsOf, FinishesWithin, GainsWithin, IsOfForm, Job, JobsWithin, Rise, rule_of}
 
 -- ---- lists of jobs
 
@@ -74,19 +74,19 @@ module _ (conf : Settings) where
 
 -- ---- phases of jobs
 
-module _ (tells : Type 0) (gives : List (List ℕ) → List ℕ → List ℕ) (told : Told) where
+module _ (S : Rule) (tells : Type 0) (gives : List (List ℕ) → List ℕ → List ℕ) (told : Told) where
   parts_append : (specs : List JobSpec) (parts : List Part) (others : List JobSpec) (more : List Part) → ArePartsOf tells gives told specs parts → ArePartsOf tells gives told others more → ArePartsOf tells gives told (specs ++ others) (parts ++ more)
   parts_append [] parts others more none next =
       subst (λ (l : List Part). ArePartsOf tells gives told others (l ++ more)) (sym none) next
   parts_append (spec ∷ specs) parts others more (job, rest) next =
       (record { state = job.state; count = job.count; rest = job.rest ++ more; had = job.had; counted = job.counted; cut = ap (λ (l : List Part). l ++ more) job.cut ∙ append_assoc (parts_of gives spec.folder (plan_of spec job.state) spec.slots job.count) job.rest more }, parts_append specs job.rest others more rest next)
 
-  any_of_all : (parts : List Part) (entries : List LogEntry) (given : List Given) → AllRun MayStart tells told parts entries given → AnyRun MayStart tells told parts entries given
+  any_of_all : (parts : List Part) (entries : List LogEntry) (given : List Given) → AllRun S tells told parts entries given → AnyRun S tells told parts entries given
   any_of_all [] entries given none = none
   any_of_all (part ∷ parts) entries given (cut, rest) = inr (cut, any_of_all parts cut.rest cut.more rest)
 
   module _ (old mid new : Seen) (had have has : List Given) where
-    pub gains_append : (specs others : List JobSpec) → FinishesJobs MayStart tells gives specs old mid had have told → GainsJobs MayStart tells gives others mid new have has told → GainsJobs MayStart tells gives (specs ++ others) old new had has told
+    pub gains_append : (specs others : List JobSpec) → FinishesJobs S tells gives specs old mid had have told → GainsJobs S tells gives others mid new have has told → GainsJobs S tells gives (specs ++ others) old new had has told
     gains_append specs others first next =
         record {
           parts = first.parts ++ next.parts;
@@ -95,10 +95,10 @@ module _ (tells : Type 0) (gives : List (List ℕ) → List ℕ → List ℕ) (t
           given = first.given ++ next.given;
           log = next.log ∙ ap (λ (l : List LogEntry). l ++ next.entries) first.log ∙ append_assoc old.log first.entries next.entries;
           givens = λ tell. next.givens tell ∙ ap (λ (l : List Given). l ++ next.given) (first.givens tell) ∙ append_assoc had first.given next.given;
-          run = (phases_add_up MayStart tells told first.parts next.parts first.entries next.entries first.given next.given first.run).1 next.run;
+          run = (phases_add_up S tells told first.parts next.parts first.entries next.entries first.given next.given first.run).1 next.run;
         }
 
-    pub finishes_append : (specs others : List JobSpec) → FinishesJobs MayStart tells gives specs old mid had have told → FinishesJobs MayStart tells gives others mid new have has told → FinishesJobs MayStart tells gives (specs ++ others) old new had has told
+    pub finishes_append : (specs others : List JobSpec) → FinishesJobs S tells gives specs old mid had have told → FinishesJobs S tells gives others mid new have has told → FinishesJobs S tells gives (specs ++ others) old new had has told
     finishes_append specs others first next =
         record {
           parts = first.parts ++ next.parts;
@@ -107,14 +107,14 @@ module _ (tells : Type 0) (gives : List (List ℕ) → List ℕ → List ℕ) (t
           given = first.given ++ next.given;
           log = next.log ∙ ap (λ (l : List LogEntry). l ++ next.entries) first.log ∙ append_assoc old.log first.entries next.entries;
           givens = λ tell. next.givens tell ∙ ap (λ (l : List Given). l ++ next.given) (first.givens tell) ∙ append_assoc had first.given next.given;
-          run = (phases_add_up MayStart tells told first.parts next.parts first.entries next.entries first.given next.given first.run).0 next.run;
+          run = (phases_add_up S tells told first.parts next.parts first.entries next.entries first.given next.given first.run).0 next.run;
         }
 
-  pub gains_of : (old new : Seen) (had has : List Given) (specs : List JobSpec) → FinishesJobs MayStart tells gives specs old new had has told → GainsJobs MayStart tells gives specs old new had has told
+  pub gains_of : (old new : Seen) (had has : List Given) (specs : List JobSpec) → FinishesJobs S tells gives specs old new had has told → GainsJobs S tells gives specs old new had has told
   gains_of old new had has specs all =
       record { parts = all.parts; of_jobs = all.of_jobs; entries = all.entries; given = all.given; log = all.log; givens = all.givens; run = any_of_all all.parts all.entries all.given all.run }
 
-  pub nothing : (old new : Seen) (had has : List Given) → new ≡ old → (tells → has ≡ had) → FinishesJobs MayStart tells gives [] old new had has told
+  pub nothing : (old new : Seen) (had has : List Given) → new ≡ old → (tells → has ≡ had) → FinishesJobs S tells gives [] old new had has told
   nothing old new had has seen given =
       record { parts = []; of_jobs = refl; entries = []; given = []; log = ap (λ (s : Seen). s.log) seen ∙ sym (append-nil old.log); givens = λ tell. given tell ∙ sym (append-nil had); run = (refl, λ _. refl) }
 
@@ -124,39 +124,39 @@ module _ (tells : Type 0) (gives : List (List ℕ) → List ℕ → List ℕ) (c
   -- no child was started
   pub none_finish : (low high : ℕ) (old new : Seen) (had has : List Given) (told : Told) → low ≤ high → new ≡ old → (tells → has ≡ had) → FinishesWithin tells gives conf low high old new had has told
   none_finish low high old new had has told less seen given =
-      record { jobs = []; rise = less; each = tt; specs = []; are = tt; log = nothing tells gives told old new had has seen given }
+      record { jobs = []; rise = less; each = tt; specs = []; are = tt; log = nothing (rule_of conf) tells gives told old new had has seen given }
 
   pub none_gain : (low high : ℕ) (old new : Seen) (had has : List Given) (told : Told) → low ≤ high → new ≡ old → (tells → has ≡ had) → GainsWithin tells gives conf low high old new had has told
   none_gain low high old new had has told less seen given =
-      record { jobs = []; rise = less; each = tt; specs = []; are = tt; log = gains_of tells gives told old new had has [] (nothing tells gives told old new had has seen given) }
+      record { jobs = []; rise = less; each = tt; specs = []; are = tt; log = gains_of (rule_of conf) tells gives told old new had has [] (nothing (rule_of conf) tells gives told old new had has seen given) }
 
   pub gain_of : (low high : ℕ) (old new : Seen) (had has : List Given) (told : Told) → FinishesWithin tells gives conf low high old new had has told → GainsWithin tells gives conf low high old new had has told
   gain_of low high old new had has told all =
-      within conf low low high high (λ specs. FinishesJobs MayStart tells gives specs old new had has told) (λ specs. GainsJobs MayStart tells gives specs old new had has told) (omega arith) (omega arith) (λ specs done. gains_of tells gives told old new had has specs done) all
+      within conf low low high high (λ specs. FinishesJobs (rule_of conf) tells gives specs old new had has told) (λ specs. GainsJobs (rule_of conf) tells gives specs old new had has told) (omega arith) (omega arith) (λ specs done. gains_of (rule_of conf) tells gives told old new had has specs done) all
 
   -- among more ranks
   pub gain_within : (low mid high end : ℕ) (old new : Seen) (had has : List Given) (told : Told) → low ≤ mid → high ≤ end → GainsWithin tells gives conf mid high old new had has told → GainsWithin tells gives conf low end old new had has told
   gain_within low mid high end old new had has told less more some =
-      within conf low mid high end (λ specs. GainsJobs MayStart tells gives specs old new had has told) (λ specs. GainsJobs MayStart tells gives specs old new had has told) less more (λ specs log. log) some
+      within conf low mid high end (λ specs. GainsJobs (rule_of conf) tells gives specs old new had has told) (λ specs. GainsJobs (rule_of conf) tells gives specs old new had has told) less more (λ specs log. log) some
 
   pub finish_within : (low mid high end : ℕ) (old new : Seen) (had has : List Given) (told : Told) → low ≤ mid → high ≤ end → FinishesWithin tells gives conf mid high old new had has told → FinishesWithin tells gives conf low end old new had has told
   finish_within low mid high end old new had has told less more some =
-      within conf low mid high end (λ specs. FinishesJobs MayStart tells gives specs old new had has told) (λ specs. FinishesJobs MayStart tells gives specs old new had has told) less more (λ specs log. log) some
+      within conf low mid high end (λ specs. FinishesJobs (rule_of conf) tells gives specs old new had has told) (λ specs. FinishesJobs (rule_of conf) tells gives specs old new had has told) less more (λ specs log. log) some
 
   -- what was finished stays so
   pub finish_later : (low high : ℕ) (old new : Seen) (had has : List Given) (d e : Told) → (tells → GoesOn d e) → FinishesWithin tells gives conf low high old new had has d → FinishesWithin tells gives conf low high old new had has e
   finish_later low high old new had has d e on some =
-      within conf low low high high (λ specs. FinishesJobs MayStart tells gives specs old new had has d) (λ specs. FinishesJobs MayStart tells gives specs old new had has e) (omega arith) (omega arith) (λ specs log. finished_stay MayStart tells gives specs old new had has d e on log) some
+      within conf low low high high (λ specs. FinishesJobs (rule_of conf) tells gives specs old new had has d) (λ specs. FinishesJobs (rule_of conf) tells gives specs old new had has e) (omega arith) (omega arith) (λ specs log. finished_stay (rule_of conf) tells gives specs old new had has d e on log) some
 
   module _ (old between new : Seen) (had have has : List Given) (d e : Told) where
     -- a call behind another
     pub behind_gain : (low from mid to until high : ℕ) → low ≤ from → mid ≤ to → until ≤ high → (tells → GoesOn d e) → FinishesWithin tells gives conf from mid old between had have d → GainsWithin tells gives conf to until between new have has e → GainsWithin tells gives conf low high old new had has e
     behind_gain low from mid to until high less apart more on first next =
-        append conf low mid high (λ specs. FinishesJobs MayStart tells gives specs old between had have e) (λ specs. GainsJobs MayStart tells gives specs between new have has e) (λ specs. GainsJobs MayStart tells gives specs old new had has e) (λ specs others. gains_append tells gives e old between new had have has specs others) (finish_within low from mid mid old between had have e less (omega arith) (finish_later from mid old between had have d e on first)) (gain_within mid to until high between new have has e apart more next)
+        append conf low mid high (λ specs. FinishesJobs (rule_of conf) tells gives specs old between had have e) (λ specs. GainsJobs (rule_of conf) tells gives specs between new have has e) (λ specs. GainsJobs (rule_of conf) tells gives specs old new had has e) (λ specs others. gains_append (rule_of conf) tells gives e old between new had have has specs others) (finish_within low from mid mid old between had have e less (omega arith) (finish_later from mid old between had have d e on first)) (gain_within mid to until high between new have has e apart more next)
 
     pub behind_finish : (low from mid to until high : ℕ) → low ≤ from → mid ≤ to → until ≤ high → (tells → GoesOn d e) → FinishesWithin tells gives conf from mid old between had have d → FinishesWithin tells gives conf to until between new have has e → FinishesWithin tells gives conf low high old new had has e
     behind_finish low from mid to until high less apart more on first next =
-        append conf low mid high (λ specs. FinishesJobs MayStart tells gives specs old between had have e) (λ specs. FinishesJobs MayStart tells gives specs between new have has e) (λ specs. FinishesJobs MayStart tells gives specs old new had has e) (λ specs others. finishes_append tells gives e old between new had have has specs others) (finish_within low from mid mid old between had have e less (omega arith) (finish_later from mid old between had have d e on first)) (finish_within mid to until high between new have has e apart more next)
+        append conf low mid high (λ specs. FinishesJobs (rule_of conf) tells gives specs old between had have e) (λ specs. FinishesJobs (rule_of conf) tells gives specs between new have has e) (λ specs. FinishesJobs (rule_of conf) tells gives specs old new had has e) (λ specs others. finishes_append (rule_of conf) tells gives e old between new had have has specs others) (finish_within low from mid mid old between had have e less (omega arith) (finish_later from mid old between had have d e on first)) (finish_within mid to until high between new have has e apart more next)
 
     -- then no child was started
     pub finish_stays : (low high : ℕ) → (tells → GoesOn d e) → FinishesWithin tells gives conf low high old between had have d → new ≡ between → (tells → has ≡ have) → FinishesWithin tells gives conf low high old new had has e
@@ -171,11 +171,11 @@ module _ (tells : Type 0) (gives : List (List ℕ) → List ℕ → List ℕ) (c
   module _ (old between new : Seen) (had have has : List Given) (e : Told) (seen : between ≡ old) (given : tells → have ≡ had) where
     pub after_none_gain : (low high : ℕ) → low ≤ high → GainsWithin tells gives conf low high between new have has e → GainsWithin tells gives conf low high old new had has e
     after_none_gain low high some next =
-        append conf low low high (λ specs. FinishesJobs MayStart tells gives specs old between had have e) (λ specs. GainsJobs MayStart tells gives specs between new have has e) (λ specs. GainsJobs MayStart tells gives specs old new had has e) (λ specs others. gains_append tells gives e old between new had have has specs others) (none_finish low low old between had have e (omega arith) seen given) next
+        append conf low low high (λ specs. FinishesJobs (rule_of conf) tells gives specs old between had have e) (λ specs. GainsJobs (rule_of conf) tells gives specs between new have has e) (λ specs. GainsJobs (rule_of conf) tells gives specs old new had has e) (λ specs others. gains_append (rule_of conf) tells gives e old between new had have has specs others) (none_finish low low old between had have e (omega arith) seen given) next
 
     pub after_none_finish : (low high : ℕ) → low ≤ high → FinishesWithin tells gives conf low high between new have has e → FinishesWithin tells gives conf low high old new had has e
     after_none_finish low high some next =
-        append conf low low high (λ specs. FinishesJobs MayStart tells gives specs old between had have e) (λ specs. FinishesJobs MayStart tells gives specs between new have has e) (λ specs. FinishesJobs MayStart tells gives specs old new had has e) (λ specs others. finishes_append tells gives e old between new had have has specs others) (none_finish low low old between had have e (omega arith) seen given) next
+        append conf low low high (λ specs. FinishesJobs (rule_of conf) tells gives specs old between had have e) (λ specs. FinishesJobs (rule_of conf) tells gives specs between new have has e) (λ specs. FinishesJobs (rule_of conf) tells gives specs old new had has e) (λ specs others. finishes_append (rule_of conf) tells gives e old between new had have has specs others) (none_finish low low old between had have e (omega arith) seen given) next
 
 -- where it is done
 pub if_done : (P Q : Type 0) {T E : Type 0} (result : Result T E) → (P → Q) → OnOk result P → OnOk result Q
@@ -242,10 +242,10 @@ module _ (tells : Type 0) (gives : List (List ℕ) → List ℕ → List ℕ) (c
       }
 
   module _ (old between new : Seen) (had have has : List Given) (d e : Told) (on : tells → GoesOn d e) (seen : between ≡ old) (given : tells → have ≡ had) where
-    pub job_gains : (result : Result JobReport JobFault) → JobLog MayStart tells gives spec.folder (plan_of spec (files d)) spec.slots between new have has e result → GainsWithin tells gives conf (rank_of place) (rank_of place + 1) old new had has e
+    pub job_gains : (result : Result JobReport JobFault) → JobLog (rule_of conf) tells gives spec.folder (plan_of spec (files d)) spec.slots between new have has e result → GainsWithin tells gives conf (rank_of place) (rank_of place + 1) old new had has e
     job_gains result log =
-        job_within (λ specs. GainsJobs MayStart tells gives specs old new had has e) (jobs_add_up MayStart tells gives [] spec (files d) old between new had have has e result (nothing tells gives e old between had have seen given) (λ tell. had_inputs spec d e (on tell)) log).0
+        job_within (λ specs. GainsJobs (rule_of conf) tells gives specs old new had has e) (jobs_add_up (rule_of conf) tells gives [] spec (files d) old between new had have has e result (nothing (rule_of conf) tells gives e old between had have seen given) (λ tell. had_inputs spec d e (on tell)) log).0
 
-    pub job_finishes : (report : JobReport) → JobLog MayStart tells gives spec.folder (plan_of spec (files d)) spec.slots between new have has e (Ok report) → FinishesWithin tells gives conf (rank_of place) (rank_of place + 1) old new had has e
+    pub job_finishes : (report : JobReport) → JobLog (rule_of conf) tells gives spec.folder (plan_of spec (files d)) spec.slots between new have has e (Ok report) → FinishesWithin tells gives conf (rank_of place) (rank_of place + 1) old new had has e
     job_finishes report log =
-        job_within (λ specs. FinishesJobs MayStart tells gives specs old new had has e) ((jobs_add_up MayStart tells gives [] spec (files d) old between new had have has e (Ok report) (nothing tells gives e old between had have seen given) (λ tell. had_inputs spec d e (on tell)) log).1 report refl)
+        job_within (λ specs. FinishesJobs (rule_of conf) tells gives specs old new had has e) ((jobs_add_up (rule_of conf) tells gives [] spec (files d) old between new had have has e (Ok report) (nothing (rule_of conf) tells gives e old between had have seen given) (λ tell. had_inputs spec d e (on tell)) log).1 report refl)

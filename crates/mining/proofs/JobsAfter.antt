@@ -4,7 +4,6 @@ use Rattle.std.specs.Prelude.{Option}
 use Rattle.std.specs.List.{AllByRecursion}
 use Rattle.dir_disk.specs.Moments.{Told}
 use Rattle.dir_disk.specs.Children.{Given, Seen}
-use Rattle.task_core.specs.Board.{MayStart}
 use Rattle.conf.specs.declared.commands.Form.{Form}
 use Rattle.conf.specs.declared.reading.Conf.{Conf as Settings}
 use Rattle.job.specs.declared.spec.JobSpec.{JobSpec}
@@ -14,7 +13,7 @@ use Rattle.job.proofs.Listing.{each_append}
 use Rattle.mining.specs.declared.place.Place.{Place}
 use Rattle.mining.specs.declared.place.Place.TheVariants.{Conf, Edges, Nodes, Placed, Matrix, Blocks, Messages, Vector, Joined, Results}
 use Rattle.mining.specs.Places.{rank_of}
-use Rattle.mining.specs.Jobs.{FinishesPast, FinishesWithin, GainsPast, GainsWithin, IsJobPast, IsOfForm, IsPast, Job, JobsPast, JobsWithin, Rise, rank_after, rank_behind, rank_from}
+use Rattle.mining.specs.Jobs.{FinishesPast, FinishesWithin, GainsPast, GainsWithin, IsJobPast, IsOfForm, IsPast, Job, JobsPast, JobsWithin, Rise, rank_after, rank_behind, rank_from, rule_of}
 use Rattle.mining.proofs.JobsAdded.{are_append, finish_later, finishes_append, gains_append, gains_of, nothing, rank_messages, rank_vector, rise_append, rise_from, rise_to}
 
 pub rise_less : (low : ℕ) (jobs : List Job) (high : ℕ) → Rise low jobs high → low ≤ high
@@ -101,29 +100,29 @@ module _ (tells : Type 0) (gives : List (List ℕ) → List ℕ → List ℕ) (c
   module _ (old new : Seen) (had has : List Given) (told : Told) where
     pub gain_any : (low high : ℕ) → high ≤ rank_behind → GainsWithin tells gives conf low high old new had has told → GainsPast tells gives conf None old new had has told
     gain_any low high less some =
-        any_past conf low high (λ specs. GainsJobs MayStart tells gives specs old new had has told) some less
+        any_past conf low high (λ specs. GainsJobs (rule_of conf) tells gives specs old new had has told) some less
 
     pub finish_any : (low high : ℕ) → high ≤ rank_behind → FinishesWithin tells gives conf low high old new had has told → FinishesPast tells gives conf None old new had has told
     finish_any low high less some =
-        any_past conf low high (λ specs. FinishesJobs MayStart tells gives specs old new had has told) some less
+        any_past conf low high (λ specs. FinishesJobs (rule_of conf) tells gives specs old new had has told) some less
 
     pub gain_early : (k low : ℕ) → GainsWithin tells gives conf low (rank_from 0) old new had has told → GainsPast tells gives conf (Some k) old new had has told
     gain_early k low some =
-        early_jobs conf k low (λ specs. GainsJobs MayStart tells gives specs old new had has told) some
+        early_jobs conf k low (λ specs. GainsJobs (rule_of conf) tells gives specs old new had has told) some
 
   module _ (old between new : Seen) (had have has : List Given) (d e : Told) (on : tells → GoesOn d e) (k low : ℕ) (first : FinishesWithin tells gives conf low (rank_from 0) old between had have d) where
     pub gain_past : GainsWithin tells gives conf (rank_after k) rank_behind between new have has e → GainsPast tells gives conf (Some k) old new had has e
     gain_past next =
-        both_jobs conf k low (λ specs. FinishesJobs MayStart tells gives specs old between had have e) (λ specs. GainsJobs MayStart tells gives specs between new have has e) (λ specs. GainsJobs MayStart tells gives specs old new had has e) (λ specs others. gains_append tells gives e old between new had have has specs others) (finish_later tells gives conf low (rank_from 0) old between had have d e on first) next
+        both_jobs conf k low (λ specs. FinishesJobs (rule_of conf) tells gives specs old between had have e) (λ specs. GainsJobs (rule_of conf) tells gives specs between new have has e) (λ specs. GainsJobs (rule_of conf) tells gives specs old new had has e) (λ specs others. gains_append (rule_of conf) tells gives e old between new had have has specs others) (finish_later tells gives conf low (rank_from 0) old between had have d e on first) next
 
     pub finish_past : FinishesWithin tells gives conf (rank_after k) rank_behind between new have has e → FinishesPast tells gives conf (Some k) old new had has e
     finish_past next =
-        both_jobs conf k low (λ specs. FinishesJobs MayStart tells gives specs old between had have e) (λ specs. FinishesJobs MayStart tells gives specs between new have has e) (λ specs. FinishesJobs MayStart tells gives specs old new had has e) (λ specs others. finishes_append tells gives e old between new had have has specs others) (finish_later tells gives conf low (rank_from 0) old between had have d e on first) next
+        both_jobs conf k low (λ specs. FinishesJobs (rule_of conf) tells gives specs old between had have e) (λ specs. FinishesJobs (rule_of conf) tells gives specs between new have has e) (λ specs. FinishesJobs (rule_of conf) tells gives specs old new had has e) (λ specs others. finishes_append (rule_of conf) tells gives e old between new had have has specs others) (finish_later tells gives conf low (rank_from 0) old between had have d e on first) next
 
 -- no child was started
 pub none_past : (tells : Type 0) (gives : List (List ℕ) → List ℕ → List ℕ) (conf : Settings) (k : Option ℕ) (old new : Seen) (had has : List Given) (told : Told) → new ≡ old → (tells → has ≡ had) → GainsPast tells gives conf k old new had has told
 none_past tells gives conf k old new had has told seen given =
-    record { jobs = []; rise = omega arith; each = tt; specs = []; are = tt; log = gains_of tells gives told old new had has [] (nothing tells gives told old new had has seen given) }
+    record { jobs = []; rise = omega arith; each = tt; specs = []; are = tt; log = gains_of (rule_of conf) tells gives told old new had has [] (nothing (rule_of conf) tells gives told old new had has seen given) }
 
 abbrev past_as : (conf : Settings) (k : Option ℕ) (L M : List JobSpec → Type 0) → ((specs : List JobSpec) → L specs → M specs) → JobsPast conf k L → JobsPast conf k M
 past_as conf k L M turn some =
@@ -133,8 +132,8 @@ past_as conf k L M turn some =
 module _ (tells : Type 0) (gives : List (List ℕ) → List ℕ → List ℕ) (conf : Settings) (k : Option ℕ) (old between new : Seen) (had have has : List Given) (told : Told) (seen : between ≡ old) (given : tells → have ≡ had) where
   pub after_none_past : GainsPast tells gives conf k between new have has told → GainsPast tells gives conf k old new had has told
   after_none_past some =
-      past_as conf k (λ specs. GainsJobs MayStart tells gives specs between new have has told) (λ specs. GainsJobs MayStart tells gives specs old new had has told) (λ specs log. gains_append tells gives told old between new had have has [] specs (nothing tells gives told old between had have seen given) log) some
+      past_as conf k (λ specs. GainsJobs (rule_of conf) tells gives specs between new have has told) (λ specs. GainsJobs (rule_of conf) tells gives specs old new had has told) (λ specs log. gains_append (rule_of conf) tells gives told old between new had have has [] specs (nothing (rule_of conf) tells gives told old between had have seen given) log) some
 
   pub after_none_done : FinishesPast tells gives conf k between new have has told → FinishesPast tells gives conf k old new had has told
   after_none_done some =
-      past_as conf k (λ specs. FinishesJobs MayStart tells gives specs between new have has told) (λ specs. FinishesJobs MayStart tells gives specs old new had has told) (λ specs log. finishes_append tells gives told old between new had have has [] specs (nothing tells gives told old between had have seen given) log) some
+      past_as conf k (λ specs. FinishesJobs (rule_of conf) tells gives specs between new have has told) (λ specs. FinishesJobs (rule_of conf) tells gives specs old new had has told) (λ specs log. finishes_append (rule_of conf) tells gives told old between new had have has [] specs (nothing (rule_of conf) tells gives told old between had have seen given) log) some

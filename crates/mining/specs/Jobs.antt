@@ -1,9 +1,10 @@
 -- The jobs of the table that a call carries out, and what they add to the log.
-use Rattle.std.specs.Prelude.{◌≡◌, ℕ, ◌+◌, ◌*◌, ◌^◌, ◌<◌, ◌≤◌, ⊤, true, false, List, [], ◌∷◌, Option, None, Some}
+use Rattle.std.specs.Prelude.{◌≡◌, ℕ, ◌+◌, ◌*◌, ◌^◌, ◌<◌, ◌≤◌, ⊤, Bool, true, false, List, [], ◌∷◌, Option, None, Some}
 use Rattle.std.specs.List.{AllByRecursion}
 use Rattle.dir_disk.specs.Moments.{Told}
 use Rattle.dir_disk.specs.Children.{Given, Seen}
-use Rattle.task_core.specs.Board.{MayStart}
+use Rattle.task_core.specs.Board.{MayStart, Rule}
+use Rattle.twins.specs.Rules.{MayStartTwin}
 use Rattle.conf.specs.declared.commands.Form.{Form}
 use Rattle.conf.specs.declared.reading.Conf.{Conf as Settings}
 use Rattle.job.specs.declared.spec.JobSpec.{JobSpec}
@@ -12,6 +13,15 @@ use Rattle.mining.specs.declared.place.Place.{Place}
 use Rattle.mining.specs.declared.place.Place.TheVariants.{Conf, Edges, Nodes, Placed, Matrix, Blocks, Messages, Vector, Joined, Results}
 use Rattle.mining.specs.Places.{IsInTable, is_made, is_sealed, rank_of}
 use Rattle.mining.specs.Making.{IsJobOf}
+
+-- which attempt may be started where a second one of a task may run at once, and where it may not
+abbrev pub rule_with : Bool → Rule
+rule_with true = MayStartTwin
+rule_with false = MayStart
+
+-- which attempt the jobs of these settings may start
+abbrev pub rule_of : Settings → Rule
+rule_of conf = rule_with conf.backup
 
 -- a job of the table: the folder that it makes, and the last iteration that it is made for
 pub record Job : Type 0 where
@@ -48,12 +58,12 @@ pub record JobsWithin (conf : Settings) (low high : ℕ) (L : List JobSpec → T
 -- the log gained what the phases of such jobs add, each of which was begun only where those before it were done
 abbrev pub GainsWithin : Type 0 → (List (List ℕ) → List ℕ → List ℕ) → Settings → ℕ → ℕ → Seen → Seen → List Given → List Given → Told → Type 0
 GainsWithin tells gives conf low high old new had has told =
-    JobsWithin conf low high (λ specs. GainsJobs MayStart tells gives specs old new had has told)
+    JobsWithin conf low high (λ specs. GainsJobs (rule_of conf) tells gives specs old new had has told)
 
 -- the log gained what the phases of such jobs add, each of which was done
 abbrev pub FinishesWithin : Type 0 → (List (List ℕ) → List ℕ → List ℕ) → Settings → ℕ → ℕ → Seen → Seen → List Given → List Given → Told → Type 0
 FinishesWithin tells gives conf low high old new had has told =
-    JobsWithin conf low high (λ specs. FinishesJobs MayStart tells gives specs old new had has told)
+    JobsWithin conf low high (λ specs. FinishesJobs (rule_of conf) tells gives specs old new had has told)
 
 -- the least rank of an iteration, that of its messages, and the least one after it
 abbrev pub rank_from : ℕ → ℕ
@@ -104,9 +114,9 @@ pub record JobsPast (conf : Settings) (k : Option ℕ) (L : List JobSpec → Typ
 -- what the log gained, and the children were given, is what the phases of such jobs add, each of which was begun only where those before it were done
 abbrev pub GainsPast : Type 0 → (List (List ℕ) → List ℕ → List ℕ) → Settings → Option ℕ → Seen → Seen → List Given → List Given → Told → Type 0
 GainsPast tells gives conf k old new had has told =
-    JobsPast conf k (λ specs. GainsJobs MayStart tells gives specs old new had has told)
+    JobsPast conf k (λ specs. GainsJobs (rule_of conf) tells gives specs old new had has told)
 
 -- what the log gained, and the children were given, is what the phases of such jobs add, each of which was done
 abbrev pub FinishesPast : Type 0 → (List (List ℕ) → List ℕ → List ℕ) → Settings → Option ℕ → Seen → Seen → List Given → List Given → Told → Type 0
 FinishesPast tells gives conf k old new had has told =
-    JobsPast conf k (λ specs. FinishesJobs MayStart tells gives specs old new had has told)
+    JobsPast conf k (λ specs. FinishesJobs (rule_of conf) tells gives specs old new had has told)
