@@ -17,7 +17,7 @@ use Rattle.mining.specs.declared.stop.Stop.{Stop}
 use Rattle.mining.specs.declared.stop.Stop.TheVariants as Why
 use Rattle.mining.specs.Between.{IsSure, KeepsVectors}
 use Rattle.mining.specs.Failures.{IsOfNoTask, TellsOfAnswer, TellsOfStop}
-use Rattle.mining.specs.Jobs.{FinishesWithin, GainsWithin, rank_after, rank_behind, rank_from, rank_of_base}
+use Rattle.mining.specs.Jobs.{FinishesWithin, GainsWithin, rank_after, rank_behind, rank_from, rank_of_base, rule_of}
 use Rattle.mining.specs.Places.{folder_of}
 use Rattle.mining.specs.Stops.{IsOfDisk}
 use Rattle.mining.proofs.Failures.{cut_nothing, quiet_done, quiet_stop}
@@ -182,7 +182,7 @@ module _ (tells : Type 0) (gives : List (List ℕ) → List ℕ → List ℕ) (c
   none_logs k old new had has told outcome seen given =
       record {
         gains = none_past tells gives conf k old new had has told seen given;
-        done = λ is. record { jobs = []; rise = omega arith; each = tt; specs = []; are = tt; log = nothing tells gives told old new had has seen given };
+        done = λ is. record { jobs = []; rise = omega arith; each = tt; specs = []; are = tt; log = nothing (rule_of conf) tells gives told old new had has seen given };
       }
 
   -- before, no child was started
