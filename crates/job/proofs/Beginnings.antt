@@ -12,7 +12,7 @@ use Rattle.dir_disk.specs.declared.site.LogEntry.{LogEntry}
 use Rattle.dir_disk.specs.declared.site.LogEntry.TheVariants.{Started, StartFailed, Ended}
 use Rattle.task_core.specs.Board.{Board, Rule, Runs, has, running_in, fresh, after, IsRun, Step, Start, Refuse, End}
 use Rattle.job.specs.Failing.{is_made, made_in, steps_of}
-use Rattle.job.specs.Going.{commits_of, givens_of}
+use Rattle.job.specs.Going.{commit_calls, givens_of}
 use Rattle.job.specs.Logged.{IsDoomed, of_phase}
 use Rattle.job.specs.LogLaws.{IsMomentOf, DeadTaskTellsWhenItsPhaseBegan}
 use Rattle.job.specs.Output.{map_inputs, reduce_inputs}
@@ -28,7 +28,7 @@ givens_made w inputs calls m (StartFailed attempt ∷ entries) =
     omega (arith, sum_by-cons (λ (y : LogEntry). cond (is_made y) 1 0) (StartFailed attempt) entries, givens_made w inputs calls (after m (Refuse attempt.task.task attempt.number)) entries)
 givens_made w inputs calls m (Ended attempt status ∷ entries) =
     let here : Step = End attempt.task.task attempt.number status in
-    omega (arith, sum_by-cons (λ (y : LogEntry). cond (is_made y) 1 0) (Ended attempt status) entries, givens_made w inputs (calls + commits_of m (here ∷ [])) (after m here) entries)
+    omega (arith, sum_by-cons (λ (y : LogEntry). cond (is_made y) 1 0) (Ended attempt status) entries, givens_made w inputs (calls + commit_calls w.home m (here ∷ [])) (after m here) entries)
 
 -- nothing runs in the beginning
 none_runs : (n slots t a : ℕ) → Runs (fresh n slots).tasks t a → ⊥

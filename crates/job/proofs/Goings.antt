@@ -1,6 +1,6 @@
 -- How the log and what was given go on, entry by entry and stretch by stretch.
 use Rattle.std.proofs.Common.{◌||◌, ◌≡◌, ℕ, ℤ, ◌+◌, ◌≤◌, Bool, true, false, cond, ◌&&◌, not, ◌⊎◌, inl, inr, ⊎_elim, Option, Some, None, MatchOption, List, [], ◌∷◌, ◌++◌, set, zero, suc, refl, sym, ap, ◌∙◌, subst, arith, Result, Ok, Err}
-use Rattle.std.specs.Prelude.{IsErrOf, OnErr}
+use Rattle.std.specs.Prelude.{OnErr}
 use Rattle.std.specs.Option.{is_some}
 use Rattle.std.proofs.lemmas.Bool.{cases_eq, false≢true}
 use Rattle.std.proofs.lemmas.List.{map-append}
@@ -9,12 +9,11 @@ use Rattle.dir_disk.specs.Children.{Given, Seen}
 use Rattle.dir_disk.specs.declared.site.LogEntry.{LogEntry}
 use Rattle.committer.specs.declared.fault.CommitFault.{CommitFault}
 use Rattle.committer.specs.declared.fault.CommitFault.TheVariants.{Disk, NoMemory}
-use Rattle.committer.specs.Faults.{calls_of as committed}
 use Rattle.task_core.specs.Board.{Board, Tried, Open, Finished, IsNext, Runs, is_dead, becomes_done, ended, tried_at, with_tried, after, after_all, runs, NoneDead, IsLeastDead, Step, Start, Refuse, End, is_success}
 use Rattle.task_core.proofs.TriedLemmas.{below_from_next, below_from_runs, set_other, alive_running, ended_runs, after_start, after_refused}
-use Rattle.job.specs.Work.{Work}
+use Rattle.job.specs.Work.{Home, Work, calls_at}
 use Rattle.job.specs.Failing.{steps_of, step_of, made_in, is_made}
-use Rattle.job.specs.Going.{Mode, Working, Waiting, MayMakeIn, AreAsMany, IsExact, givens_of, givens_in, has_dead, commits_of, calls_of}
+use Rattle.job.specs.Going.{Mode, Working, Waiting, MayMakeIn, AreAsMany, IsExact, givens_of, givens_in, has_dead, commit_calls, calls_of}
 use Rattle.job.specs.Turned.{left_at, Moves}
 
 -- ---- stretches
@@ -25,33 +24,33 @@ steps-append xs ys = map-append step_of xs ys
 pub made-append : (xs ys : List LogEntry) → made_in (xs ++ ys) ≡ made_in xs + made_in ys
 made-append xs ys = sum_by-append (λ x. cond (is_made x) 1 0) xs ys
 
-pub commits-append : (m : Board) (xs ys : List Step) → commits_of m (xs ++ ys) ≡ commits_of m xs + commits_of (after_all m xs) ys
-commits-append m [] ys = omega arith
-commits-append m (x ∷ xs) ys =
-    let rest = commits-append (after m x) xs ys in omega (arith, rest)
+pub commit_calls-append : (home : Home) (m : Board) (xs ys : List Step) → commit_calls home m (xs ++ ys) ≡ commit_calls home m xs + commit_calls home (after_all m xs) ys
+commit_calls-append home m [] ys = omega arith
+commit_calls-append home m (x ∷ xs) ys =
+    let rest = commit_calls-append home (after m x) xs ys in omega (arith, rest)
 
-pub calls-append : (mode : Mode) (m : Board) (xs ys : List Step) → calls_of mode m (xs ++ ys) ≡ calls_of mode m xs + calls_of mode (after_all m xs) ys
-calls-append Working m xs ys = commits-append m xs ys
-calls-append Waiting m xs ys = omega arith
+pub calls-append : (mode : Mode) (home : Home) (m : Board) (xs ys : List Step) → calls_of mode home m (xs ++ ys) ≡ calls_of mode home m xs + calls_of mode home (after_all m xs) ys
+calls-append Working home m xs ys = commit_calls-append home m xs ys
+calls-append Waiting home m xs ys = omega arith
 
-pub givens-append : (w : Work) (inputs : ℕ → List ℕ) (calls : ℕ) (m : Board) (xs ys : List Step) → givens_of w inputs calls m (xs ++ ys) ≡ givens_of w inputs calls m xs ++ givens_of w inputs (calls + commits_of m xs) (after_all m xs) ys
+pub givens-append : (w : Work) (inputs : ℕ → List ℕ) (calls : ℕ) (m : Board) (xs ys : List Step) → givens_of w inputs calls m (xs ++ ys) ≡ givens_of w inputs calls m xs ++ givens_of w inputs (calls + commit_calls w.home m xs) (after_all m xs) ys
 givens-append w inputs calls m [] ys =
-    let none : calls ≡ calls + commits_of m [] = omega arith in
+    let none : calls ≡ calls + commit_calls w.home m [] = omega arith in
     ap (λ (i : ℕ). givens_of w inputs i m ys) none
 givens-append w inputs calls m (Start t a ∷ xs) ys =
     let n : Board = after m (Start t a) in
     let one : Given = record { words = w.words; input = inputs t; moment = calls } in
-    let more : calls + commits_of n xs ≡ calls + commits_of m (Start t a ∷ xs) = omega arith in
+    let more : calls + commit_calls w.home n xs ≡ calls + commit_calls w.home m (Start t a ∷ xs) = omega arith in
     ap (λ (gs : List Given). one ∷ gs) (givens-append w inputs calls n xs ys ∙ ap (λ (i : ℕ). givens_of w inputs calls n xs ++ givens_of w inputs i (after_all n xs) ys) more)
 givens-append w inputs calls m (Refuse t a ∷ xs) ys =
     let n : Board = after m (Refuse t a) in
     let one : Given = record { words = w.words; input = inputs t; moment = calls } in
-    let more : calls + commits_of n xs ≡ calls + commits_of m (Refuse t a ∷ xs) = omega arith in
+    let more : calls + commit_calls w.home n xs ≡ calls + commit_calls w.home m (Refuse t a ∷ xs) = omega arith in
     ap (λ (gs : List Given). one ∷ gs) (givens-append w inputs calls n xs ys ∙ ap (λ (i : ℕ). givens_of w inputs calls n xs ++ givens_of w inputs i (after_all n xs) ys) more)
 givens-append w inputs calls m (End t a status ∷ xs) ys =
     let n : Board = after m (End t a status) in
-    let here : ℕ = calls + commits_of m (End t a status ∷ []) in
-    let more : here + commits_of n xs ≡ calls + commits_of m (End t a status ∷ xs) = omega arith in
+    let here : ℕ = calls + commit_calls w.home m (End t a status ∷ []) in
+    let more : here + commit_calls w.home n xs ≡ calls + commit_calls w.home m (End t a status ∷ xs) = omega arith in
     givens-append w inputs here n xs ys ∙ ap (λ (i : ℕ). givens_of w inputs here n xs ++ givens_of w inputs i (after_all n xs) ys) more
 
 pub givens_same : (w : Work) (inputs more : ℕ → List ℕ) (calls : ℕ) (m : Board) (xs : List Step) → ((t : ℕ) → more t ≡ inputs t) → givens_of w more calls m xs ≡ givens_of w inputs calls m xs
@@ -61,12 +60,12 @@ givens_same w inputs more calls m (Start t a ∷ xs) same =
 givens_same w inputs more calls m (Refuse t a ∷ xs) same =
     ap (λ text. record { words = w.words; input = text; moment = calls } ∷ givens_of w more calls (after m (Refuse t a)) xs) (same t) ∙ ap (λ gs. record { words = w.words; input = inputs t; moment = calls } ∷ gs) (givens_same w inputs more calls (after m (Refuse t a)) xs same)
 givens_same w inputs more calls m (End t a status ∷ xs) same =
-    givens_same w inputs more (calls + commits_of m (End t a status ∷ [])) (after m (End t a status)) xs same
+    givens_same w inputs more (calls + commit_calls w.home m (End t a status ∷ [])) (after m (End t a status)) xs same
 
 -- one stretch after another, where each commit of the first one was a call
-pub givens_then : (mode : Mode) (w : Work) (inputs more : ℕ → List ℕ) (early late : ℕ) (m n : Board) (xs ys : List Step) → ((t : ℕ) → more t ≡ inputs t) → late ≡ early + calls_of mode m xs → n ≡ after_all m xs → givens_in mode w inputs early m (xs ++ ys) ≡ givens_in mode w inputs early m xs ++ givens_in mode w more late n ys
+pub givens_then : (mode : Mode) (w : Work) (inputs more : ℕ → List ℕ) (early late : ℕ) (m n : Board) (xs ys : List Step) → ((t : ℕ) → more t ≡ inputs t) → late ≡ early + calls_of mode w.home m xs → n ≡ after_all m xs → givens_in mode w inputs early m (xs ++ ys) ≡ givens_in mode w inputs early m xs ++ givens_in mode w more late n ys
 givens_then Working w inputs more early late m n xs ys same calls reached =
-    givens-append w inputs early m xs ys ∙ ap (λ (gs : List Given). givens_of w inputs early m xs ++ gs) (sym (givens_same w inputs more late n ys same ∙ ap (λ (i : ℕ). givens_of w inputs i n ys) calls ∙ ap (λ (k : Board). givens_of w inputs (early + commits_of m xs) k ys) reached))
+    givens-append w inputs early m xs ys ∙ ap (λ (gs : List Given). givens_of w inputs early m xs ++ gs) (sym (givens_same w inputs more late n ys same ∙ ap (λ (i : ℕ). givens_of w inputs i n ys) calls ∙ ap (λ (k : Board). givens_of w inputs (early + commit_calls w.home m xs) k ys) reached))
 givens_then Waiting w inputs more early late m n xs ys same calls reached = refl
 
 pub ends_give_none : (mode : Mode) (w : Work) (inputs : ℕ → List ℕ) (calls : ℕ) (m : Board) (t a : ℕ) (status : ℤ) → givens_in mode w inputs calls m (End t a status ∷ []) ≡ []
@@ -138,17 +137,11 @@ not_both true true is = inr refl
 not_both true false is = absurd (false≢true (sym is))
 not_both false dead is = inl refl
 
-pub commit_due : (m : Board) (t a : ℕ) (status : ℤ) → (becomes_done (tried_at m.tasks t) (is_success status) && not (has_dead (after m (End t a status)).tasks)) ≡ true → commits_of m (End t a status ∷ []) ≡ 1
-commit_due m t a status due = rw due refl
+pub commit_due : (home : Home) (m : Board) (t a : ℕ) (status : ℤ) → (becomes_done (tried_at m.tasks t) (is_success status) && not (has_dead (after m (End t a status)).tasks)) ≡ true → commit_calls home m (End t a status ∷ []) ≡ calls_at home
+commit_due home m t a status due = rw due (omega arith)
 
-pub no_commit : (m : Board) (t a : ℕ) (status : ℤ) → (becomes_done (tried_at m.tasks t) (is_success status) && not (has_dead (after m (End t a status)).tasks)) ≡ false → commits_of m (End t a status ∷ []) ≡ 0
-no_commit m t a status due = rw due refl
-
--- the commit is one call, but where it found no memory
-pub commit_counts : {T : Type 0} (result : Result T CommitFault) → AreAsMany (IsErrOf result NoMemory → ⊥) (committed result) 1
-commit_counts (Ok value) = record { most = omega arith; exact = λ _. refl }
-commit_counts (Err Disk) = record { most = omega arith; exact = λ _. refl }
-commit_counts (Err NoMemory) = record { most = omega arith; exact = λ memory. absurd (memory refl) }
+pub no_commit : (home : Home) (m : Board) (t a : ℕ) (status : ℤ) → (becomes_done (tried_at m.tasks t) (is_success status) && not (has_dead (after m (End t a status)).tasks)) ≡ false → commit_calls home m (End t a status ∷ []) ≡ 0
+no_commit home m t a status due = rw due refl
 
 -- ---- what is left
 
@@ -206,9 +199,13 @@ always_on_err (Ok value) P holds = tt
 always_on_err (Err fault) P holds = holds
 
 -- a refusal that is passed on is as exact as it was
-pub exact_passes : {T U : Type 0} (result : Result T CommitFault) (passed : Result U CommitFault) (fault : CommitFault) → result ≡ Err fault → passed ≡ Err fault → IsExact passed → IsExact result
-exact_passes result passed fault is was exact memory =
-    let same : fault ≡ NoMemory = cc in exact (was ∙ ap Err same)
+pub exact_passes : {T U : Type 0} (home : Home) (result : Result T CommitFault) (passed : Result U CommitFault) (fault : CommitFault) → result ≡ Err fault → passed ≡ Err fault → IsExact home passed → IsExact home result
+exact_passes {T} {U} home result passed fault is was exact =
+    subst (λ (r : Result T CommitFault). IsExact home r) (sym is) (as_exact fault (subst (λ (r : Result U CommitFault). IsExact home r) was exact))
+  where
+    as_exact : (fault : CommitFault) → (let passed : Result U CommitFault = Err fault in IsExact home passed) → (let result : Result T CommitFault = Err fault in IsExact home result)
+    as_exact Disk exact = exact
+    as_exact NoMemory exact = exact
 
-pub exact_ok : {T : Type 0} (result : Result T CommitFault) (value : T) → result ≡ Ok value → IsExact result
-exact_ok result value is memory = cc
+pub exact_ok : {T : Type 0} (home : Home) (result : Result T CommitFault) (value : T) → result ≡ Ok value → IsExact home result
+exact_ok {T} home result value is = subst (λ (r : Result T CommitFault). IsExact home r) (sym is) tt

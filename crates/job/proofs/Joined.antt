@@ -20,11 +20,11 @@ use Rattle.job.specs.declared.fault.JobFault.TheVariants.{TaskFailed, Disk, NoMe
 use Rattle.job.specs.declared.spec.JobReport.{JobReport}
 use Rattle.peg_base.specs.Tasks.{same_phase}
 use Rattle.job.specs.Failing.{IsEntryOf, done_of, failed_of, is_done_of, is_failed_of, is_made, is_of, made_in, steps_of}
-use Rattle.job.specs.Going.{commits_of, givens_of}
+use Rattle.job.specs.Going.{commit_calls, givens_of}
 use Rattle.job.specs.Logged.{AreReduced, GoesOn, ReadTexts, NoneTwice, HasFewFailures, IfGivenUp, IfTaskFailed, IsCauseOf, IsCutShort, IsDone, IsLeftBy, JobAnswers, JobLog, MapLog, NamesNoTask, PhaseLog, StopsIn, StopsJob, TellsOfJob, of_phase}
 use Rattle.job.specs.Output.{Plan, map_inputs, reduce_inputs}
 use Rattle.job.specs.Ran.{StopsEarly, TellsOf}
-use Rattle.job.specs.Work.{Work, task_id, work_of}
+use Rattle.job.specs.Work.{TaskFolder, Work, task_id, work_of}
 use Rattle.job.proofs.Logs.{read_later}
 use Rattle.job.proofs.LogLemmas.{once_tells}
 
@@ -225,12 +225,12 @@ calls_of_reduce S w m entries Disk calls by_map by_reduce is_reduce given_up are
 calls_of_reduce S w m entries NoMemory calls by_map by_reduce is_reduce given_up are = tt
 
 -- it was given up in its map stage, in its reduce stage, or at its commit
-stops_in_maps : (S : Rule) (m n : Board) (maps : List LogEntry) (map_began reduce_began calls : ℕ) (fault : JobFault) → (let result : Result ℕ JobFault = Err fault in IfGivenUp result (λ exact. StopsIn S exact m maps map_began calls)) → (let result : Result JobReport JobFault = Err fault in IfGivenUp result (λ exact. StopsJob S exact m n maps [] map_began reduce_began calls))
+stops_in_maps : (S : Rule) (m n : Board) (maps : List LogEntry) (map_began reduce_began calls : ℕ) (fault : JobFault) → (let result : Result ℕ JobFault = Err fault in IfGivenUp result (λ exact. StopsIn S exact TaskFolder m maps map_began calls)) → (let result : Result JobReport JobFault = Err fault in IfGivenUp result (λ exact. StopsJob S exact m n maps [] map_began reduce_began calls))
 stops_in_maps S m n maps map_began reduce_began calls (TaskFailed id) stops = tt
 stops_in_maps S m n maps map_began reduce_began calls Disk stops = inl (refl, stops)
 stops_in_maps S m n maps map_began reduce_began calls NoMemory stops = inl (refl, stops)
 
-pub stops_in_reduces : (S : Rule) (m n : Board) (maps reduces : List LogEntry) (map_began reduce_began calls : ℕ) (fault : JobFault) → IsDone S m maps → (let result : Result ℕ JobFault = Err fault in IfGivenUp result (λ exact. StopsIn S exact n reduces reduce_began calls)) → (let result : Result JobReport JobFault = Err fault in IfGivenUp result (λ exact. StopsJob S exact m n maps reduces map_began reduce_began calls))
+pub stops_in_reduces : (S : Rule) (m n : Board) (maps reduces : List LogEntry) (map_began reduce_began calls : ℕ) (fault : JobFault) → IsDone S m maps → (let result : Result ℕ JobFault = Err fault in IfGivenUp result (λ exact. StopsIn S exact TaskFolder n reduces reduce_began calls)) → (let result : Result JobReport JobFault = Err fault in IfGivenUp result (λ exact. StopsJob S exact m n maps reduces map_began reduce_began calls))
 stops_in_reduces S m n maps reduces map_began reduce_began calls (TaskFailed id) done stops = tt
 stops_in_reduces S m n maps reduces map_began reduce_began calls Disk done stops =
     inr (inl (done, stops))
@@ -244,7 +244,7 @@ stops_at_commit S m n maps reduces map_began reduce_began calls Disk done all =
 stops_at_commit S m n maps reduces map_began reduce_began calls NoMemory done all =
     inr (inr (done, all))
 
-pub job_log : (S : Rule) (tells : Type 0) (gives : List (List ℕ) → List ℕ → List ℕ) (folder : Names) (plan : Plan) (slots count : ℕ) (a b c h : Seen) (had has have given : List Given) (mid late last : Told) (m r : Result ℕ JobFault) (result : Result JobReport JobFault) → (tells → count ≡ length (map_inputs plan)) → (tells → GoesOn mid last) → (tells → GoesOn late last) → (maps : PhaseLog S tells (work_of folder Map plan.map_words count) slots (map_inputs plan) a b had has mid m) → (reduces : PhaseLog S tells (work_of folder Reduce plan.reduce_words plan.reducers) slots (reduce_inputs gives plan) b c has have late r) → h ≡ c → (tells → given ≡ have) → JobAnswers S (work_of folder Map plan.map_words count) (work_of folder Reduce plan.reduce_words plan.reducers) slots maps.entries reduces.entries result → (tells → IfTaskFailed result (λ id. clock last ≡ of_phase id.phase (maps.began + commits_of (fresh count slots) (steps_of maps.entries)) (reduces.began + commits_of (fresh plan.reducers slots) (steps_of reduces.entries)))) → (tells → IfGivenUp result (λ exact. StopsJob S exact (fresh count slots) (fresh plan.reducers slots) maps.entries reduces.entries maps.began reduces.began (clock last))) → JobLog S tells gives folder plan slots a h had given last result
+pub job_log : (S : Rule) (tells : Type 0) (gives : List (List ℕ) → List ℕ → List ℕ) (folder : Names) (plan : Plan) (slots count : ℕ) (a b c h : Seen) (had has have given : List Given) (mid late last : Told) (m r : Result ℕ JobFault) (result : Result JobReport JobFault) → (tells → count ≡ length (map_inputs plan)) → (tells → GoesOn mid last) → (tells → GoesOn late last) → (maps : PhaseLog S tells (work_of folder Map plan.map_words count) slots (map_inputs plan) a b had has mid m) → (reduces : PhaseLog S tells (work_of folder Reduce plan.reduce_words plan.reducers) slots (reduce_inputs gives plan) b c has have late r) → h ≡ c → (tells → given ≡ have) → JobAnswers S (work_of folder Map plan.map_words count) (work_of folder Reduce plan.reduce_words plan.reducers) slots maps.entries reduces.entries result → (tells → IfTaskFailed result (λ id. clock last ≡ of_phase id.phase (maps.began + commit_calls TaskFolder (fresh count slots) (steps_of maps.entries)) (reduces.began + commit_calls TaskFolder (fresh plan.reducers slots) (steps_of reduces.entries)))) → (tells → IfGivenUp result (λ exact. StopsJob S exact (fresh count slots) (fresh plan.reducers slots) maps.entries reduces.entries maps.began reduces.began (clock last))) → JobLog S tells gives folder plan slots a h had given last result
 job_log S tells gives folder plan slots count a b c h had has have given mid late last m r result counted maps_on reduces_on maps reduces same same_given answer calls stopped =
     let v = work_of folder Map plan.map_words count in
     let w = work_of folder Reduce plan.reduce_words plan.reducers in
@@ -293,7 +293,7 @@ job_log_maps S tells gives folder plan slots a b had has last fault log =
       givens = λ tell. maps.givens tell ∙ ap (λ (gs : List Given). had ++ gs) (sym (append-nil first));
       map_read = maps.read;
       reduce_read = λ _. inl refl;
-      calls = λ tell. calls_of_map S v machine maps.entries fault (clock last) (maps.began + commits_of machine (steps_of maps.entries)) (0 + commits_of (fresh plan.reducers slots) []) refl maps.answer (maps.calls tell);
+      calls = λ tell. calls_of_map S v machine maps.entries fault (clock last) (maps.began + commit_calls TaskFolder machine (steps_of maps.entries)) (0 + commit_calls TaskFolder (fresh plan.reducers slots) []) refl maps.answer (maps.calls tell);
       stopped = λ tell. stops_in_maps S machine (fresh plan.reducers slots) maps.entries maps.began 0 (clock last) fault (maps.stopped tell);
       start_faults = maps.start_faults;
       answer = inl (maps.answer, refl);

@@ -1,10 +1,10 @@
 -- The log of a job's phases.
-use Rattle.std.proofs.Common.{◌≡◌, ℕ, ◌+◌, ◌*◌, ◌<◌, ◌≤◌, List, [], ◌∷◌, ◌++◌, length, get_or, drop, cond, Result, Ok, Err, inl, inr, refl, sym, ◌∙◌, ap, subst, arith}
-use Rattle.std.specs.Prelude.{IsErrOf}
+use Rattle.std.proofs.Common.{◌≡◌, ℕ, true, ◌+◌, ◌*◌, ◌<◌, ◌≤◌, List, [], ◌∷◌, ◌++◌, length, get_or, drop, cond, Result, Ok, Err, inl, inr, refl, sym, ◌∙◌, ap, subst, arith}
+use Rattle.std.specs.Prelude.{◌==◌}
 use Rattle.std.specs.List.{All}
 use Rattle.std.specs.Result.{IsErrAnd}
 use Rattle.std.proofs.Math.Seq.{drop-append_seam}
-use Rattle.std.proofs.lemmas.Bool.{false≢true}
+use Rattle.std.proofs.lemmas.Bool.{eqb-true, false≢true}
 use Rattle.std.proofs.lemmas.List.{append-nil, map-append}
 use Rattle.std.proofs.lemmas.List.Elements.{All-tail}
 use Rattle.std.proofs.lemmas.List.Sums.{sum_by-cons}
@@ -32,14 +32,14 @@ use Rattle.job.specs.declared.run.Reduced.{Reduced}
 use Rattle.job.specs.declared.fault.JobFault.{JobFault}
 use Rattle.job.specs.declared.fault.JobFault.TheVariants.{TaskFailed, Disk, NoMemory}
 use Rattle.job.specs.Failing.{gained, is_made, made_in, step_of, steps_of}
-use Rattle.job.specs.Going.{AreAsMany, commits_of, givens_of}
+use Rattle.job.specs.Going.{AreAsMany, commit_calls, givens_of}
 use Rattle.job.specs.Logged.{GoesOn, HadTexts, ReadTexts, IsGivenUp, IsDone, IsDoomed, IfGivenUp, IfTaskFailed, NamesNoTask, PhaseAnswers, PhaseLog, MapLog, StopsIn, reduced_attempts}
-use Rattle.job.specs.Ran.{Answers, Ran, TellsOf}
+use Rattle.job.specs.Ran.{Answers, IsExactFor, Ran, TellsOf}
 use Rattle.job.proofs.Goings.{givens-append}
 use Rattle.job.specs.Faults.{job_fault}
 use Rattle.job.specs.StageFaults.{of_split, of_shuffle}
 use Rattle.job.specs.Output.{Plan, map_inputs}
-use Rattle.job.specs.Work.{Work, text_at, work_of}
+use Rattle.job.specs.Work.{Home, Work, calls_at, text_at, work_of}
 
 pub none_dead : (tasks slots : ℕ) → NoneDead (fresh tasks slots).tasks
 none_dead tasks slots = fresh_none_dead tasks slots
@@ -68,10 +68,10 @@ no_task_failed T (TaskFailed id) P never = absurd never
 no_task_failed T Disk P is = tt
 no_task_failed T NoMemory P is = tt
 
-stops_at_once : (S : Rule) (m : Board) (began calls : ℕ) (fault : JobFault) → (let result : Result ℕ JobFault = Err fault in IfGivenUp result (λ exact. StopsIn S exact m [] began calls))
-stops_at_once S m began calls (TaskFailed id) = tt
-stops_at_once S m began calls Disk = inl refl
-stops_at_once S m began calls NoMemory = inl refl
+stops_at_once : (S : Rule) (home : Home) (m : Board) (began calls : ℕ) (fault : JobFault) → (let result : Result ℕ JobFault = Err fault in IfGivenUp result (λ exact. StopsIn S exact home m [] began calls))
+stops_at_once S home m began calls (TaskFailed id) = tt
+stops_at_once S home m began calls Disk = inl refl
+stops_at_once S home m began calls NoMemory = inl refl
 
 pub log_none : (S : Rule) (tells : Type 0) (w : Work) (slots : ℕ) (texts : List (List ℕ)) (old new : Seen) (had has : List Given) (e : Told) (fault : JobFault) → new ≡ old → (tells → has ≡ had) → NamesNoTask fault → PhaseLog S tells w slots texts old new had has e (Err fault)
 log_none S tells w slots texts old new had has e fault same given is =
@@ -83,8 +83,8 @@ log_none S tells w slots texts old new had has e fault same given is =
       began = 0;
       givens = λ told. given told ∙ sym (append-nil had);
       read = λ _. inl refl;
-      calls = λ _. no_task_failed ℕ fault (λ id. clock e ≡ 0 + commits_of (fresh w.count slots) []) is;
-      stopped = λ _. stops_at_once S (fresh w.count slots) 0 (clock e) fault;
+      calls = λ _. no_task_failed ℕ fault (λ id. clock e ≡ 0 + commit_calls w.home (fresh w.count slots) []) is;
+      stopped = λ _. stops_at_once S w.home (fresh w.count slots) 0 (clock e) fault;
       start_faults = let e : new.start_faults ≡ old.start_faults = ap (λ (s : Seen). s.start_faults) same in omega (arith, e);
       answer = not_begun S w slots fault is;
       told = told_nothing w fault is;
@@ -101,7 +101,7 @@ givens_within w inputs more n calls m (Refuse t a ∷ steps) named same =
     let first : IsNumbered n t a = named 0 (Refuse t a) (omega arith) in
     ap (λ (text : List ℕ). record { words = w.words; input = text; moment = calls } ∷ givens_of w inputs calls (after m (Refuse t a)) steps) (same t first.task) ∙ ap (λ rest. record { words = w.words; input = more t; moment = calls } ∷ rest) (givens_within w inputs more n calls (after m (Refuse t a)) steps (All-tail (NamesTask n) (Refuse t a) steps named) same)
 givens_within w inputs more n calls m (End t a status ∷ steps) named same =
-    givens_within w inputs more n (calls + commits_of m (End t a status ∷ [])) (after m (End t a status)) steps (All-tail (NamesTask n) (End t a status) steps named) same
+    givens_within w inputs more n (calls + commit_calls w.home m (End t a status ∷ [])) (after m (End t a status)) steps (All-tail (NamesTask n) (End t a status) steps named) same
 
 -- where no attempt was made nothing was given
 none_given : (w : Work) (inputs : ℕ → List ℕ) (calls : ℕ) (m : Board) (ends : List LogEntry) → made_in ends ≡ 0 → givens_of w inputs calls m (steps_of ends) ≡ []
@@ -112,34 +112,36 @@ none_given w inputs calls m (StartFailed attempt ∷ ends) none =
     absurd (omega (arith, sum_by-cons (λ (y : LogEntry). cond (is_made y) 1 0) (StartFailed attempt) ends, none))
 none_given w inputs calls m (Ended attempt status ∷ ends) none =
     let here : Step = End attempt.task.task attempt.number status in
-    none_given w inputs (calls + commits_of m (here ∷ [])) (after m here) ends (omega (arith, sum_by-cons (λ (y : LogEntry). cond (is_made y) 1 0) (Ended attempt status) ends, none))
+    none_given w inputs (calls + commit_calls w.home m (here ∷ [])) (after m here) ends (omega (arith, sum_by-cons (λ (y : LogEntry). cond (is_made y) 1 0) (Ended attempt status) ends, none))
 
 -- what was given before a refusal is all that was given
 all_given : (w : Work) (inputs : ℕ → List ℕ) (calls : ℕ) (m : Board) (front ends : List LogEntry) → made_in ends ≡ 0 → givens_of w inputs calls m (steps_of front) ≡ givens_of w inputs calls m (steps_of (front ++ ends))
 all_given w inputs calls m front ends none =
-    let late = calls + commits_of m (steps_of front) in
+    let late = calls + commit_calls w.home m (steps_of front) in
     let reached = after_all m (steps_of front) in
     let before = givens_of w inputs calls m (steps_of front) in
     sym (ap (λ (xs : List Step). givens_of w inputs calls m xs) (map-append step_of front ends) ∙ givens-append w inputs calls m (steps_of front) (steps_of ends) ∙ ap (λ (gs : List Given). before ++ gs) (none_given w inputs late reached ends none) ∙ append-nil before)
 
--- a phase with a dead task made one call for each commit
-calls_told : (w : Work) (m k : Board) (front ends : List LogEntry) (d e : Told) (result : Result ℕ JobFault) → Answers w k front ends result → AreAsMany (IsErrOf result NoMemory → ⊥) (clock e) (clock d + commits_of m (steps_of front)) → IfTaskFailed result (λ id. clock e ≡ clock d + commits_of m (steps_of (front ++ ends)))
+-- a phase with a dead task made the calls of each commit
+calls_told : (w : Work) (m k : Board) (front ends : List LogEntry) (d e : Told) (result : Result ℕ JobFault) → Answers w k front ends result → AreAsMany (IsExactFor w.home result) (clock e) (clock d + commit_calls w.home m (steps_of front)) → IfTaskFailed result (λ id. clock e ≡ clock d + commit_calls w.home m (steps_of (front ++ ends)))
 calls_told w m k front ends d e (Ok made) answer calls = tt
 calls_told w m k front ends d e (Err (TaskFailed id)) (named, least, nothing) calls =
     let same : front ≡ front ++ ends = sym (ap (λ (xs : List LogEntry). front ++ xs) nothing ∙ append-nil front) in
-    let exact : clock e ≡ clock d + commits_of m (steps_of front) = calls.exact (λ memory. cc) in
-    subst (λ (xs : List LogEntry). clock e ≡ clock d + commits_of m (steps_of xs)) same exact
+    let exact : clock e ≡ clock d + commit_calls w.home m (steps_of front) = calls.exact tt in
+    subst (λ (xs : List LogEntry). clock e ≡ clock d + commit_calls w.home m (steps_of xs)) same exact
 calls_told w m k front ends d e (Err Disk) answer calls = tt
 calls_told w m k front ends d e (Err NoMemory) answer calls = tt
 
--- a phase that was given up made one call for each commit before that
-stops_told : (S : Rule) (w : Work) (m : Board) (front ends : List LogEntry) (d e : Told) (result : Result ℕ JobFault) → IsBusyRun S m (steps_of front) → made_in ends ≡ 0 → Answers w (after_all m (steps_of front)) front ends result → AreAsMany (IsErrOf result NoMemory → ⊥) (clock e) (clock d + commits_of m (steps_of front)) → IfGivenUp result (λ exact. StopsIn S exact m (front ++ ends) (clock d) (clock e))
+-- a phase that was given up made the calls of each commit before that
+stops_told : (S : Rule) (w : Work) (m : Board) (front ends : List LogEntry) (d e : Told) (result : Result ℕ JobFault) → IsBusyRun S m (steps_of front) → made_in ends ≡ 0 → Answers w (after_all m (steps_of front)) front ends result → AreAsMany (IsExactFor w.home result) (clock e) (clock d + commit_calls w.home m (steps_of front)) → IfGivenUp result (λ exact. StopsIn S exact w.home m (front ++ ends) (clock d) (clock e))
 stops_told S w m front ends d e (Ok made) busy none answer calls = tt
 stops_told S w m front ends d e (Err (TaskFailed id)) busy none answer calls = tt
 stops_told S w m front ends d e (Err Disk) busy none alive calls =
     let given_up : IsGivenUp S m (front ++ ends) = record { front = front; ends = ends; parts = refl; busy = busy; none_dead = alive; none_made = none } in
-    let exact : clock e ≡ clock d + commits_of m (steps_of front) = calls.exact (λ memory. cc) in
-    inr (record { given_up = given_up; spent = record { most = calls.most; exact = λ _. exact } })
+    inr (record { given_up = given_up; spent = record { most = calls.most; exact = λ is. calls.exact (one_call w.home is) } })
+  where
+    one_call : (home : Home) → (calls_at home == 1) ≡ true → calls_at home ≡ 1
+    one_call home is = eqb-true (calls_at home) 1 is
 stops_told S w m front ends d e (Err NoMemory) busy none alive calls =
     let given_up : IsGivenUp S m (front ++ ends) = record { front = front; ends = ends; parts = refl; busy = busy; none_dead = alive; none_made = none } in
     inr (record { given_up = given_up; spent = record { most = calls.most; exact = λ is. absurd (false≢true is) } })

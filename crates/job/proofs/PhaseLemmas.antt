@@ -26,7 +26,7 @@ use Rattle.job.specs.Standing.{CanRun, AllMade, IsMade, TaskStands, HasWork}
 use Rattle.job.specs.Failing.{IsEntryOf, steps_of, made_in}
 use Rattle.job.specs.Going.{Working, Waiting, IsExact, Turn}
 use Rattle.job.specs.Turned.{IsOver, left_at}
-use Rattle.job.specs.Ran.{Answers, Ran, Judged}
+use Rattle.job.specs.Ran.{Answers, IsExactFor, Ran, Judged}
 use Rattle.job.proofs.Listing.{each_append}
 use Rattle.job.proofs.Goings.{made-append}
 use Rattle.job.proofs.TurnLemmas.{keeps_texts}
@@ -146,8 +146,8 @@ fault_answers w m front ends DiskFault none = none
 fault_answers w m front ends NoRoom none = none
 
 -- something was refused, and the children were waited for
-pub ran_refused : {T : Type 0} (S : Rule) (result : Result T CommitFault) (fault : CommitFault) (tells : Type 0) (w : Work) (b : Board) (n k : Board) (x y z : Seen) (had has have : List Given) (d e f : Told) (r : Result ℕ JobFault) → result ≡ Err fault → r ≡ Err (job_fault fault) → Turn S Working (IsExact result) tells w b n x y had has d e → Turn S Waiting (Unit {0}) tells w n k y z has have e f → NoneDead n.tasks → Ran S tells w b (text_at w (files d)) x z had have d f r
-ran_refused S result fault tells w b n k x y z had has have d e f r was is first second none =
+pub ran_refused : {T : Type 0} (S : Rule) (result : Result T CommitFault) (fault : CommitFault) (tells : Type 0) (w : Work) (b : Board) (n k : Board) (x y z : Seen) (had has have : List Given) (d e f : Told) (r : Result ℕ JobFault) → result ≡ Err fault → r ≡ Err (job_fault fault) → Turn S Working (IsExact w.home result) tells w b n x y had has d e → Turn S Waiting (Unit {0}) tells w n k y z has have e f → NoneDead n.tasks → Ran S tells w b (text_at w (files d)) x z had have d f r
+ran_refused {T} S result fault tells w b n k x y z had has have d e f r was is first second none =
     let xs = first.goes.entries in
     let ys = second.goes.entries in
     let m = b in
@@ -166,15 +166,19 @@ ran_refused S result fault tells w b n k x y z had has have d e f r was is first
           let two = (second.calls told).exact tt in
           record {
             most = omega (arith, one.most, two);
-            exact = λ room. let is_one = one.exact (λ memory. room (is ∙ ap Err (room_fault result fault was memory))) in omega (arith, is_one, two);
+            exact = λ all. let is_one = one.exact (refused_so all) in omega (arith, is_one, two);
           };
       start_faults = omega (arith, first.goes.start_faults, second.goes.start_faults);
       answer = subst (λ (u : Board). Answers w u xs ys r) first.goes.reached (subst (λ (o : Result ℕ JobFault). Answers w n xs ys o) (sym is) (fault_answers w n xs ys fault none));
     }
   where
-    room_fault : {T : Type 0} (result : Result T CommitFault) (fault : CommitFault) → result ≡ Err fault → result ≡ Err NoRoom → job_fault fault ≡ NoMemory
-    room_fault result fault was memory =
-        let same : fault ≡ NoRoom = cc in ap job_fault same
+    exact_so : (fault : CommitFault) → (let told : Result ℕ JobFault = Err (job_fault fault) in IsExactFor w.home told) → (let result : Result T CommitFault = Err fault in IsExact w.home result)
+    exact_so DiskFault all = all
+    exact_so NoRoom all = all
+
+    refused_so : IsExactFor w.home r → IsExact w.home result
+    refused_so all =
+        subst (λ (o : Result T CommitFault). IsExact w.home o) (sym was) (exact_so fault (subst (IsExactFor w.home) is all))
 
 -- each task has its output
 made_at : (w : Work) (gives : List (List ℕ) → List ℕ → List ℕ) (s : State) (t : ℕ) (v : Tried) → is_done v ≡ true → TaskStands w gives s t v → IsMade w gives s s t

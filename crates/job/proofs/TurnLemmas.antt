@@ -9,11 +9,10 @@ use Rattle.dir_disk.specs.declared.site.LogEntry.{LogEntry}
 use Rattle.dir_disk.specs.declared.site.LogEntry.TheVariants.{Started, StartFailed as Refused, Ended as Left}
 use Rattle.dir_disk.proofs.Through.{started, adds_step, then_goes, weaker, kept}
 use Rattle.committer.specs.declared.fault.CommitFault.{CommitFault}
-use Rattle.committer.specs.Faults.{calls_of as committed}
 use Rattle.committer.specs.Commits.{StandsBeside}
 use Rattle.task_core.specs.Board.{Board, Rule, Open, IsNext, after, after_all, with_tried, IsStepWhere, IsRunWhere, IsBusy, NoneDead, Step, Start, Refuse, End}
 use Rattle.task_core.proofs.TriedLemmas.{after_all-append, IsRunWhere-append, after_start, after_refused}
-use Rattle.job.specs.Work.{Work, HomesApart, IsAttempt, StandsAround, Keeps, folder_at, home_at, text_at, input_at}
+use Rattle.job.specs.Work.{Work, HomesApart, calls_at, IsAttempt, StandsAround, Keeps, folder_at, home_at, text_at, input_at}
 use Rattle.job.specs.Children.{task_no, number_no, AreChildrenOf}
 use Rattle.job.specs.Standing.{IsMoved, HasWork}
 use Rattle.job.specs.Failing.{IsEntryOf, steps_of, step_of}
@@ -23,7 +22,7 @@ use Rattle.job.proofs.Fitting.{IsNew, fits_start, fits_refused}
 use Rattle.job.proofs.Steps.{number_of, below_of}
 use Rattle.job.proofs.Listing.{each_append}
 use Rattle.job.proofs.Endings.{ended, is_due, due_success, due_delivers, done_after, stands_committed, fits_ended, end_runs, end_below, end_number, end_job, beside_local, touches_ended}
-use Rattle.job.proofs.Goings.{givens_then, ends_give_none, steps-append, calls-append, may-append, as_many_same, as_many_then, no_commit, commit_due, commit_counts}
+use Rattle.job.proofs.Goings.{givens_then, ends_give_none, steps-append, calls-append, may-append, as_many_same, as_many_then, no_commit, commit_due}
 
 -- ---- all around stands
 
@@ -56,7 +55,7 @@ touch_clock d e adds = omega (arith, adds.calls)
 
 -- ---- no turn
 
-no_turn : (S : Rule) (mode : Mode) (P : Type 0) (tells : Type 0) (w : Work) (m : Board) (seen : Seen) (had : List Given) (d : Told) → MayMakeIn mode [] → calls_of mode m [] ≡ 0 → givens_in mode w (text_at w (files d)) (clock d) m [] ≡ [] → AreChildrenOf w m seen.running → Turn S mode P tells w m m seen seen had had d d
+no_turn : (S : Rule) (mode : Mode) (P : Type 0) (tells : Type 0) (w : Work) (m : Board) (seen : Seen) (had : List Given) (d : Told) → MayMakeIn mode [] → calls_of mode w.home m [] ≡ 0 → givens_in mode w (text_at w (files d)) (clock d) m [] ≡ [] → AreChildrenOf w m seen.running → Turn S mode P tells w m m seen seen had had d d
 no_turn S mode P tells w m seen had d made none nothing fits =
     record {
       fits = fits;
@@ -71,7 +70,7 @@ no_turn S mode P tells w m seen had d made none nothing fits =
         start_faults = omega arith;
       };
       keeps = λ _. keeps_none w d;
-      calls = λ _. as_many_same P (clock d) (clock d + calls_of mode m []) (omega (arith, none));
+      calls = λ _. as_many_same P (clock d) (clock d + calls_of mode w.home m []) (omega (arith, none));
     }
 
 pub turn_none : (S : Rule) (mode : Mode) (P : Type 0) (tells : Type 0) (w : Work) (m : Board) (seen : Seen) (had : List Given) (d : Told) → AreChildrenOf w m seen.running → Turn S mode P tells w m m seen seen had had d d
@@ -95,7 +94,7 @@ turn_same S mode P tells w m n old new had has d e fits machine seen told =
         start_faults = moved.goes.start_faults;
       };
       keeps = λ t. subst (λ (x : Told). Keeps w d x) (sym (told t).1) (keeps_none w d);
-      calls = λ t. subst (λ (x : Told). AreAsMany P (clock x) (clock d + calls_of mode m (steps_of moved.goes.entries))) (sym (told t).1) (moved.calls t);
+      calls = λ t. subst (λ (x : Told). AreAsMany P (clock x) (clock d + calls_of mode w.home m (steps_of moved.goes.entries))) (sym (told t).1) (moved.calls t);
     }
 
 pub turn_weaker : (S : Rule) (mode : Mode) (P Q : Type 0) (tells : Type 0) (w : Work) (m n : Board) (old new : Seen) (had has : List Given) (d e : Told) → (Q → P) → Turn S mode P tells w m n old new had has d e → Turn S mode Q tells w m n old new had has d e
@@ -110,7 +109,7 @@ turn_weaker S mode P Q tells w m n old new had has d e weaker turn =
 -- ---- one entry
 
 pub turn_one : (S : Rule) (mode : Mode) (P : Type 0) (tells : Type 0) (w : Work) (m n : Board) (x : LogEntry) (old new : Seen) (had has : List Given) (d e : Told) → AreChildrenOf w n new.running → IsEntryOf w x → IsStepWhere S (MayEndIn S mode) m (step_of x) → n ≡ after m (step_of x) → MayMakeIn mode (x ∷ []) → new.log ≡ old.log ++ x ∷ []
-    → (tells → has ≡ had ++ givens_in mode w (text_at w (files d)) (clock d) m (step_of x ∷ [])) → old.start_faults ≤ new.start_faults → (tells → Keeps w d e) → (tells → AreAsMany P (clock e) (clock d + calls_of mode m (step_of x ∷ []))) → Turn S mode P tells w m n old new had has d e
+    → (tells → has ≡ had ++ givens_in mode w (text_at w (files d)) (clock d) m (step_of x ∷ [])) → old.start_faults ≤ new.start_faults → (tells → Keeps w d e) → (tells → AreAsMany P (clock e) (clock d + calls_of mode w.home m (step_of x ∷ []))) → Turn S mode P tells w m n old new had has d e
 turn_one S mode P tells w m n x old new had has d e fits of_work step reached made log givens start_faults keeps calls =
     record {
       fits = fits;
@@ -158,7 +157,7 @@ turn_started S P tells w m n child old new had has one d e may next fits is_new 
     let running : new.running ≡ old.running ++ child ∷ [] = ap (λ (s : Seen). s.running) seen in
     let faults : new.start_faults ≡ old.start_faults = ap (λ (s : Seen). s.start_faults) seen in
     let fits_now : AreChildrenOf w n new.running = subst (λ (k : Board). AreChildrenOf w k new.running) (sym reached) (subst (λ (k : Board). AreChildrenOf w k new.running) (sym (after_start m t a next)) (subst (λ (cs : List Child). AreChildrenOf w (with_tried m t (Open (a + 1) (a ∷ next.running))) cs) (sym running) (fits_start w m (text_at w (files d) t) t a child old.running next fits is_new))) in
-    turn_one S Working P tells w m n (Started child.attempt) old new had has d e fits_now (record { job = is_new.job; phase = is_new.phase }) may reached tt log (λ x. givens_one w (text_at w (files d) t) (clock d) had has one (given x)) (omega (arith, faults)) (λ x. keeps_touch w t a d e below number_is (told x).0 (told x).1) (λ x. as_many_same P (clock e) (clock d + calls_of Working m (Start t a ∷ [])) (omega (arith, touch_clock d e (told x).0)))
+    turn_one S Working P tells w m n (Started child.attempt) old new had has d e fits_now (record { job = is_new.job; phase = is_new.phase }) may reached tt log (λ x. givens_one w (text_at w (files d) t) (clock d) had has one (given x)) (omega (arith, faults)) (λ x. keeps_touch w t a d e below number_is (told x).0 (told x).1) (λ x. as_many_same P (clock e) (clock d + calls_of Working w.home m (Start t a ∷ [])) (omega (arith, touch_clock d e (told x).0)))
 
 pub turn_refused : (S : Rule) (P : Type 0) (tells : Type 0) (w : Work) (m n : Board) (attempt : Attempt) (old new : Seen) (had has : List Given) (one : Given) (d e : Told) → S m attempt.task.task attempt.number → (next : IsNext m.tasks attempt.task.task attempt.number) → AreChildrenOf w m old.running → attempt.task.job ≡ w.folder → attempt.task.phase ≡ w.phase
     → n ≡ after m (Refuse attempt.task.task attempt.number) → new.running ≡ old.running → new.log ≡ old.log ++ Refused attempt ∷ [] → old.start_faults ≤ new.start_faults
@@ -169,16 +168,16 @@ turn_refused S P tells w m n attempt old new had has one d e may next fits job p
     let number_is = number_of w m t a old.running next fits in
     let below = below_of w m t a old.running next fits in
     let fits_now : AreChildrenOf w n new.running = subst (λ (k : Board). AreChildrenOf w k new.running) (sym reached) (subst (λ (k : Board). AreChildrenOf w k new.running) (sym (after_refused m t a next)) (subst (λ (cs : List Child). AreChildrenOf w (with_tried m t (Open (a + 1) next.running)) cs) (sym running) (fits_refused w m t a old.running next fits))) in
-    turn_one S Working P tells w m n (Refused attempt) old new had has d e fits_now (record { job = job; phase = phase }) may reached tt log (λ x. givens_one w (text_at w (files d) t) (clock d) had has one (given x)) faults (λ x. keeps_touch w t a d e below number_is (told x).0 (told x).1) (λ x. as_many_same P (clock e) (clock d + calls_of Working m (Refuse t a ∷ [])) (omega (arith, touch_clock d e (told x).0)))
+    turn_one S Working P tells w m n (Refused attempt) old new had has d e fits_now (record { job = job; phase = phase }) may reached tt log (λ x. givens_one w (text_at w (files d) t) (clock d) had has one (given x)) faults (λ x. keeps_touch w t a d e below number_is (told x).0 (told x).1) (λ x. as_many_same P (clock e) (clock d + calls_of Working w.home m (Refuse t a ∷ [])) (omega (arith, touch_clock d e (told x).0)))
 
 may_end : (mode : Mode) (attempt : Attempt) (status : ℤ) → MayMakeIn mode (Left attempt status ∷ [])
 may_end Working attempt status = tt
 may_end Waiting attempt status = refl
 
 -- an end, and then maybe a commit
-pub turn_ended : (S : Rule) (mode : Mode) (P : Type 0) (tells : Type 0) (w : Work) (gives : List (List ℕ) → List ℕ → List ℕ) (m n : Board) (attempt : Attempt) (status : ℤ) (child : Child) (old new late : Seen) (had has have : List Given) (d e f : Told) (k : ℕ) → MayEndIn S mode m → AreChildrenOf w m old.running → Ends attempt status child old new → (tells → Leaves gives child status d e)
-    → n ≡ ended m attempt status → late ≡ new → (tells → (has ≡ had) × (have ≡ has)) → (tells → Keeps w e f) → (tells → clock f ≡ clock e + k) → (tells → AreAsMany P k (calls_of mode m (End attempt.task.task attempt.number status ∷ []))) → Turn S mode P tells w m n old late had have d f
-turn_ended S mode P tells w gives m n attempt status child old new late had has have d e f k allowed fits ends leaves reached same given keeps clock_is counts =
+pub turn_ended : (S : Rule) (mode : Mode) (P : Type 0) (tells : Type 0) (w : Work) (gives : List (List ℕ) → List ℕ → List ℕ) (m n : Board) (attempt : Attempt) (status : ℤ) (child : Child) (old new late : Seen) (had has have : List Given) (d e f : Told) → MayEndIn S mode m → AreChildrenOf w m old.running → Ends attempt status child old new → (tells → Leaves gives child status d e)
+    → n ≡ ended m attempt status → late ≡ new → (tells → (has ≡ had) × (have ≡ has)) → (tells → Keeps w e f) → (tells → AreAsMany P (clock f) (clock e + calls_of mode w.home m (End attempt.task.task attempt.number status ∷ []))) → Turn S mode P tells w m n old late had have d f
+turn_ended S mode P tells w gives m n attempt status child old new late had has have d e f allowed fits ends leaves reached same given keeps counts =
     let t = attempt.task.task in
     let a = attempt.number in
     let runs = end_runs w m attempt status child old new fits ends in
@@ -189,11 +188,11 @@ turn_ended S mode P tells w gives m n attempt status child old new late had has 
     let running : late.running ≡ new.running = ap (λ (s : Seen). s.running) same in
     let faults : late.start_faults ≡ old.start_faults = ap (λ (s : Seen). s.start_faults) same ∙ ends.start_faults in
     let fits_now : AreChildrenOf w n late.running = subst (λ (x : Board). AreChildrenOf w x late.running) (sym reached) (subst (λ (cs : List Child). AreChildrenOf w (ended m attempt status) cs) (sym running) (fits_ended w m attempt status child old new fits ends)) in
-    turn_one S mode P tells w m n (Left attempt status) old late had have d f fits_now (record { job = job.0; phase = job.1 }) (runs, allowed) reached (may_end mode attempt status) log (λ x. (given x).1 ∙ (given x).0 ∙ sym (append-nil had) ∙ ap (λ (gs : List Given). had ++ gs) (sym (ends_give_none mode w (text_at w (files d)) (clock d) m t a status))) (omega (arith, faults)) (λ x. keeps_then w d e f (keeps_touch w t a d e below number (leaves x).adds (touches_ended w m attempt status child old new (files d) (files e) fits ends (leaves x).only)) (keeps x)) (λ x. after_end_calls d e f k (calls_of mode m (End t a status ∷ [])) (touch_clock d e (leaves x).adds) (clock_is x) (counts x))
+    turn_one S mode P tells w m n (Left attempt status) old late had have d f fits_now (record { job = job.0; phase = job.1 }) (runs, allowed) reached (may_end mode attempt status) log (λ x. (given x).1 ∙ (given x).0 ∙ sym (append-nil had) ∙ ap (λ (gs : List Given). had ++ gs) (sym (ends_give_none mode w (text_at w (files d)) (clock d) m t a status))) (omega (arith, faults)) (λ x. keeps_then w d e f (keeps_touch w t a d e below number (leaves x).adds (touches_ended w m attempt status child old new (files d) (files e) fits ends (leaves x).only)) (keeps x)) (λ x. after_end_calls d e f (calls_of mode w.home m (End t a status ∷ [])) (touch_clock d e (leaves x).adds) (counts x))
   where
-    after_end_calls : (d e f : Told) (k c : ℕ) → clock e ≡ clock d → clock f ≡ clock e + k → AreAsMany P k c → AreAsMany P (clock f) (clock d + c)
-    after_end_calls d e f k c first second count =
-        record { most = omega (arith, first, second, count.most); exact = λ p. let is = count.exact p in omega (arith, first, second, is) }
+    after_end_calls : (d e f : Told) (c : ℕ) → clock e ≡ clock d → AreAsMany P (clock f) (clock e + c) → AreAsMany P (clock f) (clock d + c)
+    after_end_calls d e f c first count =
+        record { most = omega (arith, first, count.most); exact = λ p. let is = count.exact p in omega (arith, first, is) }
 
 -- ---- one turn after another
 
@@ -209,7 +208,7 @@ turn_then S mode Q R tells w m n k a b c had has have d e f weaker first second 
     let before = givens_in mode w (text_at w (files d)) (clock d) m (steps_of xs) in
     let after_them = givens_in mode w (text_at w (files e)) (clock e) n (steps_of ys) in
     let givens : (x : tells) → have ≡ had ++ givens_in mode w (text_at w (files d)) (clock d) m (steps_of xs ++ steps_of ys) = λ x. second.goes.givens x ∙ ap (λ (gs : List Given). gs ++ after_them) (first.goes.givens x) ∙ append_assoc had before after_them ∙ ap (λ (gs : List Given). had ++ gs) (sym (givens_then mode w (text_at w (files d)) (text_at w (files e)) (clock d) (clock e) m n (steps_of xs) (steps_of ys) (texts x) ((first.calls x).exact tt) first.goes.reached)) in
-    let calls : (x : tells) → AreAsMany R (clock f) (clock d + calls_of mode m (steps_of xs ++ steps_of ys)) = λ x. subst (λ (i : ℕ). AreAsMany R (clock f) (clock d + i)) (sym (calls-append mode m (steps_of xs) (steps_of ys))) (as_many_then (Unit {0}) Q R (clock d) (clock e) (clock f) (calls_of mode m (steps_of xs)) (calls_of mode (after_all m (steps_of xs)) (steps_of ys)) (λ _. tt) weaker (first.calls x) (subst (λ (y : Board). AreAsMany Q (clock f) (clock e + calls_of mode y (steps_of ys))) first.goes.reached (second.calls x))) in
+    let calls : (x : tells) → AreAsMany R (clock f) (clock d + calls_of mode w.home m (steps_of xs ++ steps_of ys)) = λ x. subst (λ (i : ℕ). AreAsMany R (clock f) (clock d + i)) (sym (calls-append mode w.home m (steps_of xs) (steps_of ys))) (as_many_then (Unit {0}) Q R (clock d) (clock e) (clock f) (calls_of mode w.home m (steps_of xs)) (calls_of mode w.home (after_all m (steps_of xs)) (steps_of ys)) (λ _. tt) weaker (first.calls x) (subst (λ (y : Board). AreAsMany Q (clock f) (clock e + calls_of mode w.home y (steps_of ys))) first.goes.reached (second.calls x))) in
     record {
       fits = second.fits;
       goes = record {
@@ -223,7 +222,7 @@ turn_then S mode Q R tells w m n k a b c had has have d e f weaker first second 
         start_faults = omega (arith, first.goes.start_faults, second.goes.start_faults);
       };
       keeps = λ x. keeps_then w d e f (first.keeps x) (second.keeps x);
-      calls = λ x. subst (λ (ss : List Step). AreAsMany R (clock f) (clock d + calls_of mode m ss)) (sym whole) (calls x);
+      calls = λ x. subst (λ (ss : List Step). AreAsMany R (clock f) (clock d + calls_of mode w.home m ss)) (sym whole) (calls x);
     }
 
 -- ---- ends of the three kinds
@@ -232,19 +231,19 @@ turn_then S mode Q R tells w m n k a b c had has have d e f weaker first second 
 pub turn_rests : (S : Rule) (P : Type 0) (tells : Type 0) (w : Work) (gives : List (List ℕ) → List ℕ → List ℕ) (m n : Board) (attempt : Attempt) (status : ℤ) (child : Child) (old new : Seen) (had has : List Given) (d e : Told) → IsBusy S m → AreChildrenOf w m old.running → Ends attempt status child old new → (tells → Leaves gives child status d e)
     → n ≡ ended m attempt status → (tells → has ≡ had) → is_due m attempt status ≡ false → Turn S Working P tells w m n old new had has d e
 turn_rests S P tells w gives m n attempt status child old new had has d e busy fits ends leaves reached given due =
-    turn_ended S Working P tells w gives m n attempt status child old new new had has has d e e 0 busy fits ends leaves reached refl (λ x. (given x, refl)) (λ x. keeps_none w e) (λ x. omega arith) (λ x. as_many_same P 0 (calls_of Working m (End attempt.task.task attempt.number status ∷ [])) (sym (no_commit m attempt.task.task attempt.number status due)))
+    turn_ended S Working P tells w gives m n attempt status child old new new had has has d e e busy fits ends leaves reached refl (λ x. (given x, refl)) (λ x. keeps_none w e) (λ x. let none = no_commit w.home m attempt.task.task attempt.number status due in as_many_same P (clock e) (clock e + calls_of Working w.home m (End attempt.task.task attempt.number status ∷ [])) (omega (arith, none)))
 
 -- the attempt is committed, or that was tried
 pub turn_commits : {T : Type 0} (S : Rule) (result : Result T CommitFault) (tells : Type 0) (w : Work) (gives : List (List ℕ) → List ℕ → List ℕ) (m n : Board) (attempt : Attempt) (status : ℤ) (child : Child) (old new late : Seen) (had has have : List Given) (d e f : Told) → IsBusy S m → AreChildrenOf w m old.running → Ends attempt status child old new → (tells → Leaves gives child status d e)
-    → n ≡ ended m attempt status → late ≡ new → (tells → (has ≡ had) × (have ≡ has)) → is_due m attempt status ≡ true → (tells → Through (Both (StandsBeside (folder_at w attempt.task.task attempt.number) (home_at w attempt.task.task) (files e))) e f) → (tells → clock f ≡ clock e + committed result) → Turn S Working (IsExact result) tells w m n old late had have d f
-turn_commits S result tells w gives m n attempt status child old new late had has have d e f busy fits ends leaves reached same given due steps clock_is =
-    turn_ended S Working (IsExact result) tells w gives m n attempt status child old new late had has have d e f (committed result) busy fits ends leaves reached same given (λ x. keeps_commit w attempt.task.task attempt.number e f (end_below w m attempt status child old new fits ends) (end_number w m attempt status child old new fits ends) (steps x)) clock_is (λ x. subst (λ (k : ℕ). AreAsMany (IsExact result) (committed result) k) (sym (commit_due m attempt.task.task attempt.number status due)) (commit_counts result))
+    → n ≡ ended m attempt status → late ≡ new → (tells → (has ≡ had) × (have ≡ has)) → is_due m attempt status ≡ true → (tells → Through (Both (StandsBeside (folder_at w attempt.task.task attempt.number) (home_at w attempt.task.task) (files e))) e f) → (tells → AreAsMany (IsExact w.home result) (clock f) (clock e + calls_at w.home)) → Turn S Working (IsExact w.home result) tells w m n old late had have d f
+turn_commits S result tells w gives m n attempt status child old new late had has have d e f busy fits ends leaves reached same given due steps counts =
+    turn_ended S Working (IsExact w.home result) tells w gives m n attempt status child old new late had has have d e f busy fits ends leaves reached same given (λ x. keeps_commit w attempt.task.task attempt.number e f (end_below w m attempt status child old new fits ends) (end_number w m attempt status child old new fits ends) (steps x)) (λ x. subst (λ (k : ℕ). AreAsMany (IsExact w.home result) (clock f) (clock e + k)) (sym (commit_due w.home m attempt.task.task attempt.number status due)) (counts x))
 
 -- the child was only waited for
 pub turn_waits : (S : Rule) (P : Type 0) (tells : Type 0) (w : Work) (gives : List (List ℕ) → List ℕ → List ℕ) (m n : Board) (attempt : Attempt) (status : ℤ) (child : Child) (old new : Seen) (had has : List Given) (d e : Told) → AreChildrenOf w m old.running → Ends attempt status child old new → (tells → Leaves gives child status d e)
     → n ≡ ended m attempt status → (tells → has ≡ had) → Turn S Waiting P tells w m n old new had has d e
 turn_waits S P tells w gives m n attempt status child old new had has d e fits ends leaves reached given =
-    turn_ended S Waiting P tells w gives m n attempt status child old new new had has has d e e 0 tt fits ends leaves reached refl (λ x. (given x, refl)) (λ x. keeps_none w e) (λ x. omega arith) (λ x. as_many_same P 0 0 refl)
+    turn_ended S Waiting P tells w gives m n attempt status child old new new had has has d e e tt fits ends leaves reached refl (λ x. (given x, refl)) (λ x. keeps_none w e) (λ x. as_many_same P (clock e) (clock e + 0) (omega arith))
 
 -- what the directory has for the tasks once the attempt is committed
 pub commits_stand : (w : Work) (gives : List (List ℕ) → List ℕ → List ℕ) (m n : Board) (attempt : Attempt) (status : ℤ) (child : Child) (old new late : Seen) (d e f : Told) → AreChildrenOf w m old.running → Ends attempt status child old new → Leaves gives child status d e → n ≡ ended m attempt status → late ≡ new → is_due m attempt status ≡ true → (NoneDead m.tasks → HasWork w gives (files d) m old.running)

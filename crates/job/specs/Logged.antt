@@ -1,5 +1,5 @@
 -- What the log gains by a job, and what the children are given.
-use Rattle.std.specs.Prelude.{◌≡◌, ℕ, Bool, true, false, ◌+◌, ◌<◌, ◌≤◌, ◌⊎◌, List, [], ◌++◌, length, Result, Ok, Err, IfOk, slice_index_or}
+use Rattle.std.specs.Prelude.{◌≡◌, ℕ, Bool, true, false, ◌+◌, ◌&&◌, ◌==◌, ◌<◌, ◌≤◌, ◌⊎◌, List, [], ◌++◌, length, Result, Ok, Err, IfOk, slice_index_or}
 use Rattle.std.specs.List.{AllByRecursion}
 use Rattle.peg_base.specs.Names.{Names}
 use Rattle.peg_base.specs.declared.tasks.Phase.{Phase}
@@ -16,10 +16,10 @@ use Rattle.job.specs.declared.fault.JobFault.TheVariants.{TaskFailed, Disk, NoMe
 use Rattle.job.specs.declared.spec.JobReport.{JobReport}
 use Rattle.job.specs.declared.run.Mapped.{Mapped}
 use Rattle.job.specs.declared.run.Reduced.{Reduced}
-use Rattle.job.specs.Work.{Work, task_id, text_at, work_of}
+use Rattle.job.specs.Work.{Home, TaskFolder, Work, calls_at, task_id, text_at, work_of}
 use Rattle.job.specs.Failing.{IsEntryOf, steps_of, made_in, failed_of, done_of}
 use Rattle.job.specs.Ran.{TellsOf}
-use Rattle.job.specs.Going.{AreAsMany, commits_of, givens_of}
+use Rattle.job.specs.Going.{AreAsMany, commit_calls, givens_of}
 use Rattle.job.specs.Output.{Plan, map_inputs, reduce_inputs}
 
 -- ---- one phase
@@ -69,14 +69,14 @@ IfGivenUp (Err (TaskFailed id)) P = Unit {0}
 IfGivenUp (Err Disk) P = P true
 IfGivenUp (Err NoMemory) P = P false
 
--- a run that was given up while no task was dead, and since `began` made as many calls of the directory as its front has commits, or fewer where the number isn't exact
-pub record StopsAfter (S : Rule) (exact : Bool) (m : Board) (entries : List LogEntry) (began calls : ℕ) : Type 0 where
+-- a run that was given up while no task was dead, and since `began` made as many calls of the directory as the commits of its front are, or fewer where the number isn't exact, which it never is where a commit is several calls
+pub record StopsAfter (S : Rule) (exact : Bool) (home : Home) (m : Board) (entries : List LogEntry) (began calls : ℕ) : Type 0 where
   pub given_up : IsGivenUp S m entries
-  pub spent : AreAsMany (exact ≡ true) calls (began + commits_of m (steps_of given_up.front))
+  pub spent : AreAsMany ((exact && calls_at home == 1) ≡ true) calls (began + commit_calls home m (steps_of given_up.front))
 
 -- the phase wasn't begun, or it was given up so
-abbrev pub StopsIn : Rule → Bool → Board → List LogEntry → ℕ → ℕ → Type 0
-StopsIn S exact m entries began calls = (entries ≡ []) ⊎ StopsAfter S exact m entries began calls
+abbrev pub StopsIn : Rule → Bool → Home → Board → List LogEntry → ℕ → ℕ → Type 0
+StopsIn S exact home m entries began calls = (entries ≡ []) ⊎ StopsAfter S exact home m entries began calls
 
 -- the moments up to `old` stand, and others may have come
 pub record GoesOn (old new : Told) : Type 0 where
@@ -94,7 +94,7 @@ pub record HadTexts (w : Work) (texts : List (List ℕ)) (began : ℕ) (told : T
 abbrev pub ReadTexts : Work → List (List ℕ) → ℕ → List LogEntry → Told → Type 0
 ReadTexts w texts began entries told = (entries ≡ []) ⊎ HadTexts w texts began told
 
--- what the log gained by a phase, and what its children were given: their tasks' texts, which the inputs had when it began; `began` calls of the directory were made before it, which its first start tells; where a task is dead, or the phase was given up, one for each commit since then
+-- what the log gained by a phase, and what its children were given: their tasks' texts, which the inputs had when it began; `began` calls of the directory were made before it, which its first start tells; where a task is dead, or the phase was given up, those of each commit since then
 pub record PhaseLog (S : Rule) (tells : Type 0) (w : Work) (slots : ℕ) (texts : List (List ℕ)) (old new : Seen) (had has : List Given) (e : Told) (result : Result ℕ JobFault) : Type 0 where
   pub entries : List LogEntry
   pub log : new.log ≡ old.log ++ entries
@@ -103,8 +103,8 @@ pub record PhaseLog (S : Rule) (tells : Type 0) (w : Work) (slots : ℕ) (texts 
   pub began : ℕ
   pub givens : tells → has ≡ had ++ givens_of w (λ t. slice_index_or texts t []) began (fresh w.count slots) (steps_of entries)
   pub read : tells → ReadTexts w texts began entries e
-  pub calls : tells → IfTaskFailed result (λ id. clock e ≡ began + commits_of (fresh w.count slots) (steps_of entries))
-  pub stopped : tells → IfGivenUp result (λ exact. StopsIn S exact (fresh w.count slots) entries began (clock e))
+  pub calls : tells → IfTaskFailed result (λ id. clock e ≡ began + commit_calls w.home (fresh w.count slots) (steps_of entries))
+  pub stopped : tells → IfGivenUp result (λ exact. StopsIn S exact w.home (fresh w.count slots) entries began (clock e))
   pub start_faults : old.start_faults ≤ new.start_faults
   pub answer : PhaseAnswers S w (fresh w.count slots) entries result
   pub told : TellsOf w.folder w.phase w.count entries result
@@ -154,8 +154,8 @@ of_phase Reduce map reduce = reduce
 -- a job was given up before its reduce tasks were run: before its map tasks were, or in their run; or when these were done, before the reduce tasks were run or in their run; or when all tasks were done. Where it was in the run of a phase, the calls of the directory since the phase began are the commits before that
 abbrev pub StopsJob : Rule → Bool → Board → Board → List LogEntry → List LogEntry → ℕ → ℕ → ℕ → Type 0
 StopsJob S exact m n maps reduces map_began reduce_began calls =
-    ((reduces ≡ []) × StopsIn S exact m maps map_began calls)
-    ⊎ (IsDone S m maps × StopsIn S exact n reduces reduce_began calls)
+    ((reduces ≡ []) × StopsIn S exact TaskFolder m maps map_began calls)
+    ⊎ (IsDone S m maps × StopsIn S exact TaskFolder n reduces reduce_began calls)
     ⊎ (IsDone S m maps × IsDone S n reduces)
 
 -- the log gained a run of the machine for the map tasks, and then, where all of them were done, one for the reduce tasks; each child was given its phase's words and its task's text, which the task's input had when the phase began. Where a task is dead, no call of the directory was made since its phase began but one for each commit; when that was is told by the moment of the phase's first start, and there is one, since four attempts of the task failed. Where a phase that has entries was given up, the same holds of the commits before that
@@ -174,7 +174,7 @@ pub record JobLog (S : Rule) (tells : Type 0) (gives : List (List ℕ) → List 
   pub givens : tells → has ≡ had ++ (givens_of (work_of folder Map plan.map_words count) (λ t. slice_index_or (map_inputs plan) t []) map_began (fresh count slots) (steps_of maps) ++ givens_of (work_of folder Reduce plan.reduce_words plan.reducers) (λ t. slice_index_or (reduce_inputs gives plan) t []) reduce_began (fresh plan.reducers slots) (steps_of reduces))
   pub map_read : tells → ReadTexts (work_of folder Map plan.map_words count) (map_inputs plan) map_began maps e
   pub reduce_read : tells → ReadTexts (work_of folder Reduce plan.reduce_words plan.reducers) (reduce_inputs gives plan) reduce_began reduces e
-  pub calls : tells → IfTaskFailed result (λ id. clock e ≡ of_phase id.phase (map_began + commits_of (fresh count slots) (steps_of maps)) (reduce_began + commits_of (fresh plan.reducers slots) (steps_of reduces)))
+  pub calls : tells → IfTaskFailed result (λ id. clock e ≡ of_phase id.phase (map_began + commit_calls TaskFolder (fresh count slots) (steps_of maps)) (reduce_began + commit_calls TaskFolder (fresh plan.reducers slots) (steps_of reduces)))
   pub stopped : tells → IfGivenUp result (λ exact. StopsJob S exact (fresh count slots) (fresh plan.reducers slots) maps reduces map_began reduce_began (clock e))
   pub start_faults : old.start_faults ≤ new.start_faults
   pub answer : JobAnswers S (work_of folder Map plan.map_words count) (work_of folder Reduce plan.reduce_words plan.reducers) slots maps reduces result

@@ -14,6 +14,10 @@ pub data Home : Type 0 where
 abbrev pub home_of : Home → Names → Phase → ℕ → Names
 home_of TaskFolder folder phase task = task_of folder phase task
 
+-- how many calls of the directory it takes to deliver an output there
+abbrev pub calls_at : Home → ℕ
+calls_at TaskFolder = 1
+
 -- so many tasks of one phase, the words of their children, the folder that the job makes, and the folder where the output of a task goes
 pub record Work : Type 0 where
   pub folder : Names

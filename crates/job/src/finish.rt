@@ -86,7 +86,7 @@ pub(crate) fn end_one<S: Site, A: Attempting, V: Delivery>(
     requires fits { AreChildrenOf tasks.now (A.board attempts.old) (S.seen site.old).running }
     requires stands { S.tells → NoneDead (A.board attempts.old).tasks
         → HasWork tasks.now S.gives (files (S.told site.old)) (A.board attempts.old) (S.seen site.old).running }
-    ensures turn { Turn A.may Working (IsExact result) S.tells tasks.now
+    ensures turn { Turn A.may Working (IsExact tasks.now.home result) S.tells tasks.now
         (A.board attempts.old) (A.board attempts.new) (S.seen site.old) (S.seen site.new)
         (S.given site.old) (S.given site.new) (S.told site.old) (S.told site.new) }
     ensures stands { S.tells → OnOk result (NoneDead (A.board attempts.new).tasks

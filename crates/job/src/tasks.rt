@@ -3,9 +3,9 @@ ghost use Rattle.dir_disk.specs.Causes.{HasCause};
 ghost use Rattle.dir_disk.specs.Moments.{Both, Through, clock, files};
 ghost use Rattle.dir_disk.specs.Calls.{HasFile};
 ghost use Rattle.dir_disk.specs.Lent.{IsFree};
-ghost use Rattle.committer.specs.Faults.{calls_of};
 ghost use Rattle.committer.specs.Commits.{StandsBeside};
-ghost use Rattle.job.specs.Work.{folder_at, home_at, input_at, output_at};
+ghost use Rattle.job.specs.Going.{AreAsMany, IsExact};
+ghost use Rattle.job.specs.Work.{calls_at, folder_at, home_at, input_at, output_at};
 ghost use Rattle.job.specs.Standing.{IsMoved, IsOpenFrom};
 
 use crate::delivery::Delivery;
@@ -114,7 +114,8 @@ impl<'a, V: Delivery> Tasks<'a, V> {
             → Through (Both (StandsBeside from to (files (D.told dir.old)))) (D.told dir.old) (D.told dir.new) }
         ensures moved { D.tells → OnOk result (IsMoved self.now attempt.now.task.task attempt.now.number
             (files (D.told dir.old)) (files (D.told dir.new))) }
-        ensures calls { D.tells → clock (D.told dir.new) ≡ clock (D.told dir.old) + calls_of result }
+        ensures calls { D.tells → AreAsMany (IsExact self.now.home result)
+            (clock (D.told dir.new)) (clock (D.told dir.old) + calls_at self.now.home) }
         ensures lent { D.lent dir.new ≡ D.lent dir.old }
         ensures beside { D.beside dir.new ≡ D.beside dir.old }
         ensures cause { HasCause CommitFault.Disk (D.faults dir.old) (D.faults dir.new) result }

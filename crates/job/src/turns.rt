@@ -38,7 +38,7 @@ fn take_turn<S: Site, A: Attempting, V: Delivery>(
     requires fits { AreChildrenOf tasks.now (A.board attempts.old) (S.seen site.old).running }
     requires stands { S.tells → NoneDead (A.board attempts.old).tasks
         → HasWork tasks.now S.gives (files (S.told site.old)) (A.board attempts.old) (S.seen site.old).running }
-    ensures turn { Turn A.may Working (IsExact result) S.tells tasks.now
+    ensures turn { Turn A.may Working (IsExact tasks.now.home result) S.tells tasks.now
         (A.board attempts.old) (A.board attempts.new) (S.seen site.old) (S.seen site.new)
         (S.given site.old) (S.given site.new) (S.told site.old) (S.told site.new) }
     ensures turned { IfOk result (λ turned. TurnedSo A.may turned
@@ -72,7 +72,7 @@ pub(crate) fn run_tasks<S: Site, A: Attempting, V: Delivery>(
     requires fits { AreChildrenOf tasks.now (A.board attempts.old) (S.seen site.old).running }
     requires stands { S.tells → NoneDead (A.board attempts.old).tasks
         → HasWork tasks.now S.gives (files (S.told site.old)) (A.board attempts.old) (S.seen site.old).running }
-    ensures turn { Turn A.may Working (IsExact result) S.tells tasks.now
+    ensures turn { Turn A.may Working (IsExact tasks.now.home result) S.tells tasks.now
         (A.board attempts.old) (A.board attempts.new) (S.seen site.old) (S.seen site.new)
         (S.given site.old) (S.given site.new) (S.told site.old) (S.told site.new) }
     ensures over { IfOk result (λ made. IsOver A.may made (A.board attempts.new) (S.seen site.old) (S.seen site.new)) }

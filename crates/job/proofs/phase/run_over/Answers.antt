@@ -22,7 +22,7 @@ returns-in-Ok-clause-ran g c =
     let w = c.args.tasks.now in
     let n : Board = g.A.Attempting.board c.run_tasks.new.attempts in
     let judged : Judged w.folder w.phase n c.in-Ok.made c.judge.result = subst (λ (job : Names). Judged job w.phase n c.in-Ok.made c.judge.result) c.in_ok-job.ensures c.judge.ensures in
-    ran_judged g.A.Attempting.may g.met.A.Attempting.rule (IsExact c.run_tasks.result) g.S.Dir.tells w (g.A.Attempting.board c.args.attempts.now) c.in-Ok.made n (g.S.Site.seen c.args.site.now) (g.S.Site.seen c.run_tasks.new.site) (g.S.Site.given c.args.site.now) (g.S.Site.given c.run_tasks.new.site) (g.S.Dir.told c.args.site.now) (g.S.Dir.told c.run_tasks.new.site) c.judge.result (exact_ok c.run_tasks.result c.in-Ok.made c.in-Ok.is) c.requires.slots c.run_tasks.ensures.turn c.in-Ok.ensures.over judged
+    ran_judged g.A.Attempting.may g.met.A.Attempting.rule (IsExact c.args.tasks.now.home c.run_tasks.result) g.S.Dir.tells w (g.A.Attempting.board c.args.attempts.now) c.in-Ok.made n (g.S.Site.seen c.args.site.now) (g.S.Site.seen c.run_tasks.new.site) (g.S.Site.given c.args.site.now) (g.S.Site.given c.run_tasks.new.site) (g.S.Dir.told c.args.site.now) (g.S.Dir.told c.run_tasks.new.site) c.judge.result (exact_ok c.args.tasks.now.home c.run_tasks.result c.in-Ok.made c.in-Ok.is) c.requires.slots c.run_tasks.ensures.turn c.in-Ok.ensures.over judged
 
 pub returns-in-Ok-clause-made : goal.returns-in-Ok-clause-made
 returns-in-Ok-clause-made g c =
@@ -32,7 +32,7 @@ returns-in-Ok-clause-made g c =
     let d : Told = g.S.Dir.told c.args.site.now in
     let e : Told = g.S.Dir.told c.run_tasks.new.site in
     let new : Seen = g.S.Site.seen c.run_tasks.new.site in
-    made_judged c.in_ok-job.job w.phase n c.in-Ok.made c.judge.result (AllMade w g.S.Site.gives (files d) (files e)) c.judge.ensures (λ none. made_all w c.requires.fits.small.homes g.S.Site.gives n new.running d e (c.run_tasks.ensures.turn.keeps tells) (done_over g.A.Attempting.may g.met.A.Attempting.rule (IsExact c.run_tasks.result) g.S.Dir.tells w (g.A.Attempting.board c.args.attempts.now) c.in-Ok.made n (g.S.Site.seen c.args.site.now) new (g.S.Site.given c.args.site.now) (g.S.Site.given c.run_tasks.new.site) d e c.requires.slots c.run_tasks.ensures.turn c.in-Ok.ensures.over none) (c.in-Ok.ensures.stands tells none))
+    made_judged c.in_ok-job.job w.phase n c.in-Ok.made c.judge.result (AllMade w g.S.Site.gives (files d) (files e)) c.judge.ensures (λ none. made_all w c.requires.fits.small.homes g.S.Site.gives n new.running d e (c.run_tasks.ensures.turn.keeps tells) (done_over g.A.Attempting.may g.met.A.Attempting.rule (IsExact c.args.tasks.now.home c.run_tasks.result) g.S.Dir.tells w (g.A.Attempting.board c.args.attempts.now) c.in-Ok.made n (g.S.Site.seen c.args.site.now) new (g.S.Site.given c.args.site.now) (g.S.Site.given c.run_tasks.new.site) d e c.requires.slots c.run_tasks.ensures.turn c.in-Ok.ensures.over none) (c.in-Ok.ensures.stands tells none))
 
 pub returns-in-Err-clause-ran : goal.returns-in-Err-clause-ran
 returns-in-Err-clause-ran g c =

@@ -12,12 +12,12 @@ use Rattle.job.specs.declared.spec.JobReport.{JobReport}
 use Rattle.job.specs.Chunks.{chunks_of}
 use Rattle.job.specs.Failing.{gained, steps_of}
 use Rattle.job.specs.Faults.{job_fault}
-use Rattle.job.specs.Going.{commits_of}
+use Rattle.job.specs.Going.{commit_calls}
 use Rattle.job.specs.Logged.{AreReduced, IsLeftBy, JobLog, MapLog, PhaseLog, TellsOfJob, of_phase}
 use Rattle.job.specs.Output.{Plan, job_parts, map_inputs, map_outputs, pairs_among, reduce_inputs}
 use Rattle.job.specs.Shuffled.{HasJustRuns}
 use Rattle.job.specs.Whole.{IsMapped, IsReduced, Once, plan_of}
-use Rattle.job.specs.Work.{work_of}
+use Rattle.job.specs.Work.{TaskFolder, work_of}
 use Rattle.job.proofs.Finishing.{can_commit, finished, makes_commits, makes_writes, unmarked_after}
 use Rattle.job.proofs.Joined.{all_reduced, both_tell, calls_of_reduce, commit_tells, job_log, job_log_maps, joined_log, left_reduced, left_unmarked, maps_tell, phase_log_texts, reduces_tell, stops_at_commit, stops_in_reduces}
 use Rattle.job.proofs.Logs.{err_is, gained_is, no_task_failed, of_committer, goes_on, goes_on_then, goes_on_none}
@@ -147,7 +147,7 @@ returns-in_err-reduced-clause-log g c =
     let reduces : PhaseLog g.P.Phases.may g.S.Dir.tells w spec.slots (reduce_inputs gives plan) b s has have f (Err c.in_err-reduced.field-0.0) = phase_log_texts g.P.Phases.may g.S.Dir.tells w spec.slots (reduce_inputs gives (plan_of spec (files e))) (reduce_inputs gives plan) b s has have f (Err c.in_err-reduced.field-0.0) (λ tells. ap (reduce_inputs gives) (same tells)) c.in_err-reduced.ensures.log in
     let fault = c.in_err-reduced.field-0.0 in
     let is : c.from_residual-in_err-reduced.result ≡ Err fault = err_is c.from_residual-in_err-reduced.result fault c.from_residual-in_err-reduced.ensures.1 in
-    subst (λ (r : Result JobReport JobFault). JobLog g.P.Phases.may g.S.Dir.tells gives spec.folder plan spec.slots a s had have f r) (sym is) (job_log g.P.Phases.may g.S.Dir.tells gives spec.folder plan spec.slots log.count a b s s had has have have e f f (Ok c.in_ok-mapped.mapped.attempts) (Err fault) (Err fault) log.counted (λ tells. goes_on e f (c.reduce_stage.ensures.steps tells)) (λ _. goes_on_none f) log.phase reduces refl (λ tells. refl) (inr (inl (log.phase.answer.0, reduces.answer))) (λ tells. calls_of_reduce g.P.Phases.may w (fresh spec.reducers spec.slots) reduces.entries fault (clock f) (log.phase.began + commits_of (fresh log.count spec.slots) (steps_of log.phase.entries)) (reduces.began + commits_of (fresh spec.reducers spec.slots) (steps_of reduces.entries)) refl reduces.answer (reduces.calls tells)) (λ tells. stops_in_reduces g.P.Phases.may (fresh log.count spec.slots) (fresh spec.reducers spec.slots) log.phase.entries reduces.entries log.phase.began reduces.began (clock f) fault log.phase.answer.0 (reduces.stopped tells)))
+    subst (λ (r : Result JobReport JobFault). JobLog g.P.Phases.may g.S.Dir.tells gives spec.folder plan spec.slots a s had have f r) (sym is) (job_log g.P.Phases.may g.S.Dir.tells gives spec.folder plan spec.slots log.count a b s s had has have have e f f (Ok c.in_ok-mapped.mapped.attempts) (Err fault) (Err fault) log.counted (λ tells. goes_on e f (c.reduce_stage.ensures.steps tells)) (λ _. goes_on_none f) log.phase reduces refl (λ tells. refl) (inr (inl (log.phase.answer.0, reduces.answer))) (λ tells. calls_of_reduce g.P.Phases.may w (fresh spec.reducers spec.slots) reduces.entries fault (clock f) (log.phase.began + commit_calls TaskFolder (fresh log.count spec.slots) (steps_of log.phase.entries)) (reduces.began + commit_calls TaskFolder (fresh spec.reducers spec.slots) (steps_of reduces.entries)) refl reduces.answer (reduces.calls tells)) (λ tells. stops_in_reduces g.P.Phases.may (fresh log.count spec.slots) (fresh spec.reducers spec.slots) log.phase.entries reduces.entries log.phase.began reduces.began (clock f) fault log.phase.answer.0 (reduces.stopped tells)))
 
 pub returns-in_err-reduced-clause-tells : goal.returns-in_err-reduced-clause-tells
 returns-in_err-reduced-clause-tells g c =
@@ -321,7 +321,7 @@ returns-in_err-commit_job-clause-log g c =
     let beside = g.met.S.Site.beside_dir c.commit_job.new.dir c.reduce_stage.new.site c.commit_job.ensures.beside in
     let fault = job_fault c.in_err-commit_job.field-0.0 in
     let is : c.from_residual-in_err-commit_job.result ≡ Err fault = err_is c.from_residual-in_err-commit_job.result fault c.from_residual-in_err-commit_job.ensures.1 in
-    subst (λ (r : Result JobReport JobFault). JobLog g.P.Phases.may g.S.Dir.tells gives spec.folder plan spec.slots a z had (g.S.Site.given c.commit_job.new.dir) h r) (sym is) (job_log g.P.Phases.may g.S.Dir.tells gives spec.folder plan spec.slots log.count a b s z had has have (g.S.Site.given c.commit_job.new.dir) e f h (Ok c.in_ok-mapped.mapped.attempts) (Ok c.in_ok-reduced.reduced.attempts) (Err fault) log.counted (λ tells. goes_on_then e f h (goes_on e f (c.reduce_stage.ensures.steps tells)) (goes_on f h (c.commit_job.ensures.steps tells))) (λ tells. goes_on f h (c.commit_job.ensures.steps tells)) log.phase reduces beside.0 beside.1 (inr (inr (of_committer c.in_err-commit_job.field-0.0, log.phase.answer.0, reduces.answer.0))) (λ _. no_task_failed JobReport fault (λ id. clock h ≡ of_phase id.phase (log.phase.began + commits_of (fresh log.count spec.slots) (steps_of log.phase.entries)) (reduces.began + commits_of (fresh spec.reducers spec.slots) (steps_of reduces.entries))) (of_committer c.in_err-commit_job.field-0.0)) (λ _. stops_at_commit g.P.Phases.may (fresh log.count spec.slots) (fresh spec.reducers spec.slots) log.phase.entries reduces.entries log.phase.began reduces.began (clock h) fault log.phase.answer.0 reduces.answer.0))
+    subst (λ (r : Result JobReport JobFault). JobLog g.P.Phases.may g.S.Dir.tells gives spec.folder plan spec.slots a z had (g.S.Site.given c.commit_job.new.dir) h r) (sym is) (job_log g.P.Phases.may g.S.Dir.tells gives spec.folder plan spec.slots log.count a b s z had has have (g.S.Site.given c.commit_job.new.dir) e f h (Ok c.in_ok-mapped.mapped.attempts) (Ok c.in_ok-reduced.reduced.attempts) (Err fault) log.counted (λ tells. goes_on_then e f h (goes_on e f (c.reduce_stage.ensures.steps tells)) (goes_on f h (c.commit_job.ensures.steps tells))) (λ tells. goes_on f h (c.commit_job.ensures.steps tells)) log.phase reduces beside.0 beside.1 (inr (inr (of_committer c.in_err-commit_job.field-0.0, log.phase.answer.0, reduces.answer.0))) (λ _. no_task_failed JobReport fault (λ id. clock h ≡ of_phase id.phase (log.phase.began + commit_calls TaskFolder (fresh log.count spec.slots) (steps_of log.phase.entries)) (reduces.began + commit_calls TaskFolder (fresh spec.reducers spec.slots) (steps_of reduces.entries))) (of_committer c.in_err-commit_job.field-0.0)) (λ _. stops_at_commit g.P.Phases.may (fresh log.count spec.slots) (fresh spec.reducers spec.slots) log.phase.entries reduces.entries log.phase.began reduces.began (clock h) fault log.phase.answer.0 reduces.answer.0))
 
 pub returns-in_err-commit_job-clause-tells : goal.returns-in_err-commit_job-clause-tells
 returns-in_err-commit_job-clause-tells g c =

@@ -25,7 +25,7 @@ loop-made-init g c =
 pub returns-in_err-take_turn-clause-turn : goal.returns-in_err-take_turn-clause-turn
 returns-in_err-take_turn-clause-turn g c =
     let p = err_from_is_err_and c.from_residual.result c.from_residual.ensures.1 in
-    turn_then g.A.Attempting.may Working (IsExact c.take_turn.result) (IsExact c.from_residual.result) g.S.Dir.tells c.args.tasks.now (g.A.Attempting.board c.args.attempts.now) (g.A.Attempting.board c.loop-made.attempts) (g.A.Attempting.board c.take_turn.new.attempts) (g.S.Site.seen c.args.site.now) (g.S.Site.seen c.loop-made.site) (g.S.Site.seen c.take_turn.new.site) (g.S.Site.given c.args.site.now) (g.S.Site.given c.loop-made.site) (g.S.Site.given c.take_turn.new.site) (g.S.Dir.told c.args.site.now) (g.S.Dir.told c.loop-made.site) (g.S.Dir.told c.take_turn.new.site) (exact_passes c.take_turn.result c.from_residual.result c.in_err-take_turn.field-0.0 c.in_err-take_turn.was (p.1 ∙ ap Err p.2)) c.loop-made.invariant.turn c.take_turn.ensures.turn
+    turn_then g.A.Attempting.may Working (IsExact c.args.tasks.now.home c.take_turn.result) (IsExact c.args.tasks.now.home c.from_residual.result) g.S.Dir.tells c.args.tasks.now (g.A.Attempting.board c.args.attempts.now) (g.A.Attempting.board c.loop-made.attempts) (g.A.Attempting.board c.take_turn.new.attempts) (g.S.Site.seen c.args.site.now) (g.S.Site.seen c.loop-made.site) (g.S.Site.seen c.take_turn.new.site) (g.S.Site.given c.args.site.now) (g.S.Site.given c.loop-made.site) (g.S.Site.given c.take_turn.new.site) (g.S.Dir.told c.args.site.now) (g.S.Dir.told c.loop-made.site) (g.S.Dir.told c.take_turn.new.site) (exact_passes c.args.tasks.now.home c.take_turn.result c.from_residual.result c.in_err-take_turn.field-0.0 c.in_err-take_turn.was (p.1 ∙ ap Err p.2)) c.loop-made.invariant.turn c.take_turn.ensures.turn
 
 pub overflow_add-made : goal.overflow_add-made
 overflow_add-made g c =
@@ -41,7 +41,7 @@ loop-made-preserved-in-Started g c =
     let so_far = c.loop-made.invariant in
     let moves = subst (λ (turned : Turned). TurnedSo g.A.Attempting.may turned (g.A.Attempting.board c.loop-made.attempts) (g.A.Attempting.board c.take_turn.new.attempts) (g.S.Site.seen c.loop-made.site) (g.S.Site.seen c.take_turn.new.site)) c.in-Started.is c.in_ok-take_turn.ensures.turned in
     record {
-      turn = turn_then g.A.Attempting.may Working (IsExact c.take_turn.result) (Unit {0}) g.S.Dir.tells c.args.tasks.now (g.A.Attempting.board c.args.attempts.now) (g.A.Attempting.board c.loop-made.attempts) (g.A.Attempting.board c.take_turn.new.attempts) (g.S.Site.seen c.args.site.now) (g.S.Site.seen c.loop-made.site) (g.S.Site.seen c.take_turn.new.site) (g.S.Site.given c.args.site.now) (g.S.Site.given c.loop-made.site) (g.S.Site.given c.take_turn.new.site) (g.S.Dir.told c.args.site.now) (g.S.Dir.told c.loop-made.site) (g.S.Dir.told c.take_turn.new.site) (λ _. exact_ok c.take_turn.result c.in_ok-take_turn.field-0 c.in_ok-take_turn.was) so_far.turn c.take_turn.ensures.turn;
+      turn = turn_then g.A.Attempting.may Working (IsExact c.args.tasks.now.home c.take_turn.result) (Unit {0}) g.S.Dir.tells c.args.tasks.now (g.A.Attempting.board c.args.attempts.now) (g.A.Attempting.board c.loop-made.attempts) (g.A.Attempting.board c.take_turn.new.attempts) (g.S.Site.seen c.args.site.now) (g.S.Site.seen c.loop-made.site) (g.S.Site.seen c.take_turn.new.site) (g.S.Site.given c.args.site.now) (g.S.Site.given c.loop-made.site) (g.S.Site.given c.take_turn.new.site) (g.S.Dir.told c.args.site.now) (g.S.Dir.told c.loop-made.site) (g.S.Dir.told c.take_turn.new.site) (λ _. exact_ok c.args.tasks.now.home c.take_turn.result c.in_ok-take_turn.field-0 c.in_ok-take_turn.was) so_far.turn c.take_turn.ensures.turn;
       stands = c.in_ok-take_turn.ensures.stands;
       left = omega (arith, moves.left, so_far.left);
       log = omega (arith, moves.log, so_far.log);
@@ -60,7 +60,7 @@ loop-made-preserved g c =
     let so_far = c.loop-made.invariant in
     let moves = subst (λ (turned : Turned). TurnedSo g.A.Attempting.may turned (g.A.Attempting.board c.loop-made.attempts) (g.A.Attempting.board c.take_turn.new.attempts) (g.S.Site.seen c.loop-made.site) (g.S.Site.seen c.take_turn.new.site)) c.in-Ended.is c.in_ok-take_turn.ensures.turned in
     record {
-      turn = turn_then g.A.Attempting.may Working (IsExact c.take_turn.result) (Unit {0}) g.S.Dir.tells c.args.tasks.now (g.A.Attempting.board c.args.attempts.now) (g.A.Attempting.board c.loop-made.attempts) (g.A.Attempting.board c.take_turn.new.attempts) (g.S.Site.seen c.args.site.now) (g.S.Site.seen c.loop-made.site) (g.S.Site.seen c.take_turn.new.site) (g.S.Site.given c.args.site.now) (g.S.Site.given c.loop-made.site) (g.S.Site.given c.take_turn.new.site) (g.S.Dir.told c.args.site.now) (g.S.Dir.told c.loop-made.site) (g.S.Dir.told c.take_turn.new.site) (λ _. exact_ok c.take_turn.result c.in_ok-take_turn.field-0 c.in_ok-take_turn.was) so_far.turn c.take_turn.ensures.turn;
+      turn = turn_then g.A.Attempting.may Working (IsExact c.args.tasks.now.home c.take_turn.result) (Unit {0}) g.S.Dir.tells c.args.tasks.now (g.A.Attempting.board c.args.attempts.now) (g.A.Attempting.board c.loop-made.attempts) (g.A.Attempting.board c.take_turn.new.attempts) (g.S.Site.seen c.args.site.now) (g.S.Site.seen c.loop-made.site) (g.S.Site.seen c.take_turn.new.site) (g.S.Site.given c.args.site.now) (g.S.Site.given c.loop-made.site) (g.S.Site.given c.take_turn.new.site) (g.S.Dir.told c.args.site.now) (g.S.Dir.told c.loop-made.site) (g.S.Dir.told c.take_turn.new.site) (λ _. exact_ok c.args.tasks.now.home c.take_turn.result c.in_ok-take_turn.field-0 c.in_ok-take_turn.was) so_far.turn c.take_turn.ensures.turn;
       stands = c.in_ok-take_turn.ensures.stands;
       left = omega (arith, moves.left, so_far.left);
       log = omega (arith, moves.log, so_far.log);
@@ -72,7 +72,7 @@ loop-made-preserved g c =
 
 pub returns-in-Rests-clause-turn : goal.returns-in-Rests-clause-turn
 returns-in-Rests-clause-turn g c =
-    turn_then g.A.Attempting.may Working (IsExact c.take_turn.result) _ g.S.Dir.tells c.args.tasks.now (g.A.Attempting.board c.args.attempts.now) (g.A.Attempting.board c.loop-made.attempts) (g.A.Attempting.board c.take_turn.new.attempts) (g.S.Site.seen c.args.site.now) (g.S.Site.seen c.loop-made.site) (g.S.Site.seen c.take_turn.new.site) (g.S.Site.given c.args.site.now) (g.S.Site.given c.loop-made.site) (g.S.Site.given c.take_turn.new.site) (g.S.Dir.told c.args.site.now) (g.S.Dir.told c.loop-made.site) (g.S.Dir.told c.take_turn.new.site) (λ _. exact_ok c.take_turn.result c.in_ok-take_turn.field-0 c.in_ok-take_turn.was) c.loop-made.invariant.turn c.take_turn.ensures.turn
+    turn_then g.A.Attempting.may Working (IsExact c.args.tasks.now.home c.take_turn.result) _ g.S.Dir.tells c.args.tasks.now (g.A.Attempting.board c.args.attempts.now) (g.A.Attempting.board c.loop-made.attempts) (g.A.Attempting.board c.take_turn.new.attempts) (g.S.Site.seen c.args.site.now) (g.S.Site.seen c.loop-made.site) (g.S.Site.seen c.take_turn.new.site) (g.S.Site.given c.args.site.now) (g.S.Site.given c.loop-made.site) (g.S.Site.given c.take_turn.new.site) (g.S.Dir.told c.args.site.now) (g.S.Dir.told c.loop-made.site) (g.S.Dir.told c.take_turn.new.site) (λ _. exact_ok c.args.tasks.now.home c.take_turn.result c.in_ok-take_turn.field-0 c.in_ok-take_turn.was) c.loop-made.invariant.turn c.take_turn.ensures.turn
 
 pub returns-in-Rests-clause-over : goal.returns-in-Rests-clause-over
 returns-in-Rests-clause-over g c =
