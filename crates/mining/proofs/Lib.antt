@@ -15,3 +15,4 @@ pub mod JobsAfter
 pub mod Failures
 pub mod StoredLemmas
 pub mod StoredKept
+pub mod ReadLemmas

@@ -11,3 +11,4 @@ pub mod Jobs
 pub mod Failures
 pub mod Stored
 pub mod Readable
+pub mod Read

@@ -1,4 +1,4 @@
-ghost use Rattle.std.specs.Prelude.{◌≡◌, ◌<◌, ◌≤◌, ◌^◌, ◌==◌, ℕ, [], List, Some, false, true, IfOk, OnOk, IsErrOf, IfErr};
+ghost use Rattle.std.specs.Prelude.{◌≡◌, ◌<◌, ◌≤◌, ◌^◌, ◌+◌, ◌==◌, ℕ, [], List, Some, false, true, IfOk, OnOk, IsErrOf, IfErr};
 ghost use Rattle.dir_disk.specs.Causes.{HasCause};
 ghost use Rattle.dir_disk.specs.Moments.{Both, EachImage, IsFresh, Through, Told, files};
 ghost use Rattle.dir_disk.specs.Says.{Say};
@@ -22,6 +22,7 @@ ghost use Rattle.mining.specs.Failures.{IsOfNoTask, TellsOfAnswer};
 ghost use Rattle.job.specs.Failing.{gained};
 ghost use Rattle.mining.specs.Stored.{IfBadStore, IsNoBadStore, IsNotAsMade};
 ghost use Rattle.mining.specs.Readable.{IsReadable};
+ghost use Rattle.mining.specs.Read.{HasEnded, HasRead, IsResultRead};
 
 use crate::place::Place;
 use crate::run::{Reached, is_end, make_result, run_iterations};
@@ -52,6 +53,7 @@ fn read_total<S: Site>(alloc: Global, site: &mut S, conf: &Conf) -> Result<u128,
     ensures err { IfErr result IsOfJobs }
     ensures stored { S.tells → IsSure Place.Results (files (S.told site.old))
         → IfErr result (IfBadStore (IsNotAsMade conf.now (files (S.told site.new)))) }
+    ensures read { S.tells → IfOk result (λ total. IsResultRead conf.now total (files (S.told site.new))) }
 {
     let folder = Place::Results.path(alloc)?;
     Ok(total(alloc, site, &folder, conf.reducers, conf.command)?)
@@ -89,6 +91,7 @@ fn result_total<S: Site>(alloc: Global, site: &mut S, conf: &Conf, last: u32) ->
     ensures err { IfErr result IsOfJobs }
     ensures stored { S.tells → IsSure (numbers_for conf.now.form last) (files (S.told site.old))
         → IfErr result (IfBadStore (IsNotAsMade conf.now (files (S.told site.new)))) }
+    ensures read { S.tells → IfOk result (λ total. IsResultRead conf.now total (files (S.told site.new))) }
 {
     make_result(alloc, site, conf, last)?;
     read_total(alloc, site, conf)
@@ -130,6 +133,8 @@ pub fn finish<S: Site>(alloc: Global, site: &mut S, conf: &Conf, last: Reached) 
     ensures err { IfErr result IsOfMining }
     ensures stored { S.tells → IsSure (numbers_for conf.now.form last.k) (files (S.told site.old))
         → IfErr result (IfBadStore (IsNotAsMade conf.now (files (S.told site.new)))) }
+    ensures read { S.tells
+        → OnOk result (HasEnded conf.now last.k (S.said site.old) (S.said site.new) (files (S.told site.new))) }
 {
     let total = result_total(alloc, site, conf, last.k)?;
     say_done(alloc, site, conf, last, total)
@@ -179,6 +184,9 @@ pub fn mine_on<S: Site>(alloc: Global, site: &mut S, conf: &Conf, from: Reached)
     ensures none_bad { (edges : List Edge) → let mining = mining_of S.gives conf.now edges in S.tells
         → AllKept mining (files (S.told site.old)) → IsAt mining from.k from.changed → is_clustered conf.now.form ≡ false
         → IsSure (matrix_for conf.now.form) (files (S.told site.old)) → IsReadable mining → IfErr result IsNoBadStore }
+    // Whatever was there, at Ok all that it read on its way was as it is made: the vectors behind that iteration up to the one
+    // that the last line names, and the result, whose total it has.
+    ensures read { S.tells → OnOk result (HasRead conf.now (from.k + 1) (S.said site.new) (files (S.told site.new))) }
 {
     let last = run_iterations(alloc, site, conf, from)?;
     if !is_end(conf, last) {

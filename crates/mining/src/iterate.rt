@@ -20,6 +20,7 @@ ghost use Rattle.mining.specs.Jobs.{FinishesWithin, GainsWithin, rank_after, ran
 ghost use Rattle.mining.specs.Failures.{IsOfNoTask, TellsOfAnswer};
 ghost use Rattle.job.specs.Failing.{gained};
 ghost use Rattle.mining.specs.Stored.{IfBadStore, IsNoBadStore, IsNotAsMade, NamesChange};
+ghost use Rattle.mining.specs.Read.{IsStill, IsVectorRead};
 
 use crate::make::ensure_folder;
 use crate::place::Place;
@@ -78,6 +79,7 @@ fn check_bound(
     ensures no_task { IfErr result IsOfNoTask }
     ensures err { IfErr result IsOfJobs }
     ensures stored { IfErr result (IfBadStore (NamesChange conf.now k folder.now first)) }
+    ensures still { OnOk result (IsStill conf.now k first) }
 {
     match first {
         Some(place) if conf.command == Command::Hcc && k == conf.nodes => {
@@ -111,6 +113,8 @@ pub fn count_changed<S: Site>(alloc: Global, site: &mut S, conf: &Conf, k: u32) 
     ensures err { IfErr result IsOfJobs }
     ensures stored { S.tells → k < 10 ^ 10 → IsSure (Place.Vector k) (files (S.told site.old))
         → IfErr result (IfBadStore (IsNotAsMade conf.now (files (S.told site.new)))) }
+    ensures read { S.tells → IsSure (Place.Vector k) (files (S.told site.old))
+        → OnOk result (IsVectorRead conf.now k (files (S.told site.new))) }
 {
     let folder = Place::Vector(k).path(alloc)?;
     let changes = count_changes(alloc, site, &folder, conf.reducers)?;
@@ -150,6 +154,7 @@ fn new_vector<S: Site>(alloc: Global, site: &mut S, conf: &Conf, k: u32) -> Resu
     ensures stored { S.tells → IsSure (matrix_for conf.now.form) (files (S.told site.old))
         → IsSure (Place.Vector (k - 1)) (files (S.told site.old))
         → IfErr result (IfBadStore (IsNotAsMade conf.now (files (S.told site.new)))) }
+    ensures read { S.tells → OnOk result (IsVectorRead conf.now k (files (S.told site.new))) }
 {
     make_vector(alloc, site, conf, k)?;
     count_changed(alloc, site, conf, k)
@@ -262,6 +267,7 @@ pub fn next_iteration<S: Site>(
     ensures stored { S.tells → IsSure (matrix_for conf.now.form) (files (S.told site.old))
         → IsSure (Place.Vector (k - 1)) (files (S.told site.old))
         → IfErr result (IfBadStore (IsNotAsMade conf.now (files (S.told site.new)))) }
+    ensures read { S.tells → OnOk result (IsVectorRead conf.now k (files (S.told site.new))) }
 {
     let changed = new_vector(alloc, site, conf, k)?;
     announce(alloc, site, k, changed)?;

@@ -1,4 +1,4 @@
-ghost use Rattle.std.specs.Prelude.{◌≡◌, ◌≤◌, ◌<◌, ◌^◌, ◌-◌, ℕ, [], List, Some, false, true, IfOk, OnOk, IsErrOf, IfErr};
+ghost use Rattle.std.specs.Prelude.{◌≡◌, ◌≤◌, ◌<◌, ◌^◌, ◌+◌, ◌-◌, ℕ, [], List, Some, false, true, IfOk, OnOk, IsErrOf, IfErr};
 ghost use Rattle.dir_disk.specs.Causes.{HasCause};
 ghost use Rattle.dir_disk.specs.Moments.{Both, EachImage, Through, Told, files};
 ghost use Rattle.dir_disk.specs.Says.{Say};
@@ -17,6 +17,7 @@ ghost use Rattle.mining.specs.Jobs.{FinishesWithin, GainsWithin, rank_after, ran
 ghost use Rattle.mining.specs.Failures.{TellsOfAnswer};
 ghost use Rattle.job.specs.Failing.{gained};
 ghost use Rattle.mining.specs.Stored.{IfBadStore, IsNotAsMade};
+ghost use Rattle.mining.specs.Read.{AreVectorsRead};
 ghost use Rattle.mining.specs.Table.{matrix_for, numbers_for};
 
 use crate::iterate::next_iteration;
@@ -108,6 +109,8 @@ pub fn run_iterations<S: Site>(
     ensures err { IfErr result IsOfMining }
     ensures stored { S.tells → IsSure (matrix_for conf.now.form) (files (S.told site.old))
         → IfErr result (IfBadStore (IsNotAsMade conf.now (files (S.told site.new)))) }
+    ensures read { S.tells
+        → IfOk result (λ last. AreVectorsRead conf.now (from.k + 1) last.k (files (S.told site.new))) }
 {
     let mut at = from;
     let most = most_of(conf);

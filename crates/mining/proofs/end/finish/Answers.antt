@@ -14,6 +14,8 @@ use Rattle.mining.proofs.LastLemmas.{done_is, last_some}
 use Rattle.mining.proofs.AckLemmas.{acks_through}
 use Rattle.mining.specs.Stored.{IsNotAsMade}
 use Rattle.mining.proofs.StoredLemmas.{err_is, err_none}
+use Rattle.mining.specs.Read.{IsResultRead}
+use Rattle.mining.proofs.ReadLemmas.{ended}
 use Rattle.mining.proofs.end.finish.Goals as goal
 
 pub returns-in_err-total-clause-acked : goal.returns-in_err-total-clause-acked
@@ -77,3 +79,12 @@ returns-in_err-total-clause-stored g c =
 pub returns-clause-stored : goal.returns-clause-stored
 returns-clause-stored g c =
     λ tells numbers. err_none (IsNotAsMade c.args.conf.now (files (g.S.Dir.told c.say_done.new.site))) c.say_done.result c.say_done.ensures.no_store
+
+pub returns-clause-read : goal.returns-clause-read
+returns-clause-read g c =
+    λ tells.
+    let e : Told = g.S.Dir.told c.result_total.new.site in
+    let f : Told = g.S.Dir.told c.say_done.new.site in
+    let total = c.in_ok-total.total in
+    let read : IsResultRead c.args.conf.now total (files f) = subst (λ (t : Told). IsResultRead c.args.conf.now total (files t)) (sym (c.say_done.ensures.told tells)) (c.in_ok-total.ensures.read tells) in
+    ended c.say_done.result c.args.conf.now c.args.last.k (c.args.last.changed == 0) total (g.S.Console.said c.args.site.now) (g.S.Console.said c.result_total.new.site) (g.S.Console.said c.say_done.new.site) (files f) c.result_total.ensures.said read c.say_done.ensures.ok

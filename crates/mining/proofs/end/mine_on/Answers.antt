@@ -3,7 +3,7 @@ use Rattle.mining.specs.declared.stop.Stop.TheVariants.{NoMemory}
 use Rattle.job.specs.Failing.{gained}
 use Rattle.mining.proofs.JobsAdded.{gain_within, behind_gain, behind_finish, if_done, steps_on}
 use Rattle.mining.specs.Jobs.{FinishesWithin, rank_after, rank_of_end, rank_behind}
-use Rattle.std.proofs.Common.{◌≡◌, ◌^◌, ◌<◌, ◌-◌, ℕ, Some, refl, sym, subst, arith}
+use Rattle.std.proofs.Common.{◌≡◌, ◌^◌, ◌<◌, ◌+◌, ◌-◌, ℕ, Some, refl, sym, subst, arith}
 use Rattle.dir_disk.specs.Moments.{Told, EachImage, Through, files}
 use Rattle.dir_disk.specs.Streams.{AddsPart, added}
 use Rattle.dir_disk.proofs.Through.{then_goes}
@@ -18,6 +18,7 @@ use Rattle.mining.specs.Stored.{IsNotAsMade}
 use Rattle.mining.specs.declared.place.Place.{Place}
 use Rattle.mining.proofs.StoredLemmas.{err_is, err_weaker, numbers_are}
 use Rattle.mining.proofs.StoredKept.{none_bad}
+use Rattle.mining.proofs.ReadLemmas.{has_read, vectors_stay}
 use Rattle.mining.proofs.end.mine_on.Goals as goal
 
 pub returns-in_err-last-clause-part : goal.returns-in_err-last-clause-part
@@ -150,3 +151,14 @@ returns-clause-none_bad g c =
     let f : Told = g.S.Dir.told c.finish.new.site in
     let kept_then : AllKept mining (files f) = kept_after mining d f kept (returns-clause-kept g c edges tells kept start form) in
     err_weaker (IsNotAsMade c.args.conf.now (files f)) (λ path line. ⊥) c.finish.result (none_bad mining (files f) (λ q. g.met.S.Dir.now_allowed c.finish.new.site q tells) kept_then readable.last readable.is_last readable.count readable.counts readable.total readable.totals) (returns-clause-stored g c tells form matrix)
+
+pub returns-clause-read : goal.returns-clause-read
+returns-clause-read g c =
+    λ tells.
+    let e : Told = g.S.Dir.told c.run_iterations.new.site in
+    let f : Told = g.S.Dir.told c.finish.new.site in
+    let conf = c.args.conf.now in
+    let k = c.in_ok-last.last.k in
+    let few : k < 10 ^ 10 = (let small = most_small conf c.requires.limits in let most = c.in_ok-last.ensures.few.1 in omega (arith, small, most)) in
+    let vectors = vectors_stay conf (c.args.from.k + 1) k (files e) (files f) few (stays_after e f (c.finish.ensures.stays tells)) (c.in_ok-last.ensures.read tells) in
+    has_read c.finish.result conf (c.args.from.k + 1) k (g.S.Console.said c.run_iterations.new.site) (g.S.Console.said c.finish.new.site) (files f) vectors (c.finish.ensures.read tells)

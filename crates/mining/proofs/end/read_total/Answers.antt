@@ -10,6 +10,8 @@ use Rattle.mining.specs.Stored.{IfBadStore, IsNotAsMade}
 use Rattle.mining.proofs.Wholes.{same_state}
 use Rattle.mining.proofs.StoredLemmas.{err_is, reading_names, result_bad}
 use Rattle.dir_disk.specs.Moments.{Told}
+use Rattle.mining.specs.Read.{IsResultRead}
+use Rattle.mining.proofs.ReadLemmas.{result_read}
 use Rattle.mining.proofs.end.read_total.Goals as goal
 
 pub returns-in_err-total-clause-stands : goal.returns-in_err-total-clause-stands
@@ -36,3 +38,12 @@ returns-in_err-total-clause-stored g c =
     let fault = c.in_err-total.field-0.0 in
     let same : files e ≡ files d = same_state d e (c.total.ensures.stands tells) in
     err_is (IsNotAsMade conf (files e)) c.from_residual-in_err-total.result (of_reading fault) c.from_residual-in_err-total.ensures.1 (subst (λ (s : State). IfBadStore (IsNotAsMade conf s) (of_reading fault)) (sym same) (reading_names is_result (files d) c.in_ok-folder.folder conf.reducers (IsNotAsMade conf (files d)) (result_bad conf (files d) c.in_ok-folder.folder c.in_ok-folder.ensures sure) fault (c.in_err-total.ensures.bad tells)))
+
+pub returns-clause-read : goal.returns-clause-read
+returns-clause-read g c =
+    λ tells.
+    let d : Told = g.S.Dir.told c.args.site.now in
+    let e : Told = g.S.Dir.told c.total.new.dir in
+    let conf = c.args.conf.now in
+    let same : files e ≡ files d = same_state d e (c.total.ensures.stands tells) in
+    subst (λ (s : State). IsResultRead conf c.in_ok-total.field-0 s) (sym same) (result_read conf (files d) c.in_ok-folder.folder c.in_ok-total.field-0 c.in_ok-folder.ensures (c.in_ok-total.ensures.good tells) (returns-clause-total g c tells))

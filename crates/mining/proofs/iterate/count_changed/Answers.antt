@@ -10,6 +10,8 @@ use Rattle.mining.specs.Stops.{of_reading}
 use Rattle.mining.specs.Stored.{IfBadStore, IsNotAsMade, NamesChange}
 use Rattle.mining.proofs.Wholes.{same_state}
 use Rattle.mining.proofs.StoredLemmas.{err_is, named_weaker, reading_names, still_changes, vector_bad}
+use Rattle.mining.specs.Read.{IsVectorRead}
+use Rattle.mining.proofs.ReadLemmas.{vector_read}
 use Rattle.mining.proofs.iterate.count_changed.Goals as goal
 
 pub returns-in_err-changes-clause-stands : goal.returns-in_err-changes-clause-stands
@@ -52,3 +54,11 @@ returns-in_err-check_bound-clause-stored g c =
     let stop = c.in_err-check_bound.field-0.0 in
     let same : files e ≡ files d = same_state d e (c.count_changes.ensures.stands tells) in
     err_is (IsNotAsMade conf (files e)) c.from_residual-in_err-check_bound.result stop c.from_residual-in_err-check_bound.ensures.1 (subst (λ (s : State). IfBadStore (IsNotAsMade conf s) stop) (sym same) (named_weaker (NamesChange conf c.args.k folder first) (IsNotAsMade conf (files d)) (still_changes conf c.args.k (files d) folder first c.in_ok-folder.ensures few sure (c.in_ok-changes.ensures.good tells) (c.in_ok-changes.ensures.first tells)) stop c.in_err-check_bound.ensures.stored))
+
+pub returns-clause-read : goal.returns-clause-read
+returns-clause-read g c =
+    λ tells sure.
+    let d : Told = g.S.Dir.told c.args.site.now in
+    let e : Told = g.S.Dir.told c.count_changes.new.dir in
+    let same : files e ≡ files d = same_state d e (c.count_changes.ensures.stands tells) in
+    subst (λ (s : State). IsVectorRead c.args.conf.now c.args.k s) (sym same) (vector_read c.args.conf.now c.args.k (files d) c.in_ok-folder.folder c.in_ok-changes.changes.first c.in_ok-folder.ensures sure (c.in_ok-changes.ensures.good tells) (c.in_ok-changes.ensures.first tells) c.in_ok-check_bound.ensures.still)

@@ -69,3 +69,7 @@ returns-in_err-make_vector-clause-stored g c =
 pub returns-clause-stored : goal.returns-clause-stored
 returns-clause-stored g c =
     λ tells matrix vector. c.count_changed.ensures.stored tells c.requires.few (c.in_ok-make_vector.ensures.sure tells)
+
+pub returns-clause-read : goal.returns-clause-read
+returns-clause-read g c =
+    λ tells. c.count_changed.ensures.read tells (c.in_ok-make_vector.ensures.sure tells)

@@ -13,6 +13,7 @@ use Rattle.mining.proofs.EnsureLemmas.{kept_after, stays_after, stays_then, sure
 use Rattle.mining.proofs.DueLemmas.{next_kept}
 use Rattle.mining.specs.Stored.{IsNotAsMade}
 use Rattle.mining.proofs.StoredLemmas.{err_is, named_weaker}
+use Rattle.mining.proofs.ReadLemmas.{vector_stays}
 use Rattle.mining.proofs.iterate.next_iteration.Goals as goal
 
 pub returns-in_err-changed-clause-acked : goal.returns-in_err-changed-clause-acked
@@ -101,3 +102,10 @@ returns-in_err-announce-clause-stored g c =
     λ tells matrix vector.
     let made = IsNotAsMade c.args.conf.now (files (g.S.Dir.told c.announce.new.site)) in
     err_is made c.from_residual-in_err-announce.result c.in_err-announce.field-0.0 c.from_residual-in_err-announce.ensures.1 (named_weaker (λ path line. ⊥) made (λ path line none. absurd none) c.in_err-announce.field-0.0 c.in_err-announce.ensures.no_store)
+
+pub returns-clause-read : goal.returns-clause-read
+returns-clause-read g c =
+    λ tells.
+    let e : Told = g.S.Dir.told c.new_vector.new.site in
+    let f : Told = g.S.Dir.told c.announce.new.site in
+    vector_stays c.args.conf.now c.args.k (files e) (files f) c.requires.few (stays_after e f (c.announce.ensures.stays tells)) (c.in_ok-changed.ensures.read tells)

@@ -16,6 +16,7 @@ use Rattle.mining.proofs.LastLemmas.{goes_on, most_small, next_up_to, part_of_al
 use Rattle.mining.specs.Stored.{IsNotAsMade}
 use Rattle.mining.specs.Table.{matrix_for}
 use Rattle.mining.proofs.StoredLemmas.{err_is, matrix_there}
+use Rattle.mining.proofs.ReadLemmas.{one_more, vectors_stay}
 use Rattle.mining.proofs.run.run_iterations.Goals as goal
 
 pub returns-in_err-changed-clause-stays : goal.returns-in_err-changed-clause-stays
@@ -49,6 +50,7 @@ loop-at-preserved g c =
       none_running = c.next_iteration.ensures.none_running;
       firm = c.in_ok-changed.ensures.firm;
       sure = c.in_ok-changed.ensures.sure;
+      read = λ tells. let small = most_small c.args.conf.now c.requires.limits in let most = c.loop-at.invariant.most in let few = c.loop-at.invariant.few in let e : Told = g.S.Dir.told c.loop-at.site in let f : Told = g.S.Dir.told c.next_iteration.new.site in one_more c.args.conf.now (c.args.from.k + 1) c.loop-at.at.k (files f) (vectors_stay c.args.conf.now (c.args.from.k + 1) c.loop-at.at.k (files e) (files f) (omega (arith, small, most, few)) (stays_after e f (c.next_iteration.ensures.stays tells)) (c.loop-at.invariant.read tells)) (c.in_ok-changed.ensures.read tells);
       stays = λ tells. stays_then (g.S.Dir.told c.args.site.now) (g.S.Dir.told c.loop-at.site) (g.S.Dir.told c.next_iteration.new.site) (c.loop-at.invariant.stays tells) (c.next_iteration.ensures.stays tells);
       kept = λ edges tells kept start. let mining : Mining = mining_of g.S.Site.gives c.args.conf.now edges in let d : Told = g.S.Dir.told c.args.site.now in let e : Told = g.S.Dir.told c.loop-at.site in let f : Told = g.S.Dir.told c.next_iteration.new.site in let first : Through (EachImage (Kept mining)) d e = c.loop-at.invariant.kept edges tells kept start in let kept_then : AllKept mining (files e) = kept_after mining d e kept first in let few : c.loop-at.at.k + 1 < 10 ^ 10 = (let small = most_small c.args.conf.now c.requires.limits in let most = c.loop-at.invariant.most in let below = c.loop-at-test.true in omega (arith, small, most, below)) in let next : IsNext mining (c.loop-at.at.k + 1) (files e) = goes_on mining c.loop-at.at.k c.loop-at.at.changed (c.loop-at.invariant.reached edges tells kept start).count (files e) (λ q. g.met.S.Dir.now_allowed c.loop-at.site q tells) kept_then few (c.loop-at.invariant.sure tells) (sym c.if-not-is_end.ensures) in then_goes (EachImage (Kept mining)) d e f first (c.next_iteration.ensures.kept edges tells kept_then next);
       reached = λ edges tells kept start. let mining : Mining = mining_of g.S.Site.gives c.args.conf.now edges in let d : Told = g.S.Dir.told c.args.site.now in let e : Told = g.S.Dir.told c.loop-at.site in let f : Told = g.S.Dir.told c.next_iteration.new.site in let first : Through (EachImage (Kept mining)) d e = c.loop-at.invariant.kept edges tells kept start in let kept_then : AllKept mining (files e) = kept_after mining d e kept first in let few : c.loop-at.at.k + 1 < 10 ^ 10 = (let small = most_small c.args.conf.now c.requires.limits in let most = c.loop-at.invariant.most in let below = c.loop-at-test.true in omega (arith, small, most, below)) in let next : IsNext mining (c.loop-at.at.k + 1) (files e) = goes_on mining c.loop-at.at.k c.loop-at.at.changed (c.loop-at.invariant.reached edges tells kept start).count (files e) (λ q. g.met.S.Dir.now_allowed c.loop-at.site q tells) kept_then few (c.loop-at.invariant.sure tells) (sym c.if-not-is_end.ensures) in record { count = λ _ _. c.in_ok-changed.ensures.count edges tells kept_then next };
@@ -105,6 +107,7 @@ loop-at-init g c =
       log = none_finish g.S.Dir.tells g.S.Site.gives c.args.conf.now (rank_after c.args.from.k) (rank_after c.args.from.k) (g.S.Site.seen c.args.site.now) (g.S.Site.seen c.args.site.now) (g.S.Site.given c.args.site.now) (g.S.Site.given c.args.site.now) (g.S.Dir.told c.args.site.now) (omega arith) refl (λ _. refl);
       firm = c.requires.firm;
       sure = c.requires.sure;
+      read = λ tells k from up_to. absurd (omega (arith, from, up_to));
       stays = λ tells. started (Both (KeepsWhole (files (g.S.Dir.told c.args.site.now)))) (g.S.Dir.told c.args.site.now);
       kept = λ edges tells kept start. started (EachImage (Kept (mining_of g.S.Site.gives c.args.conf.now edges))) (g.S.Dir.told c.args.site.now);
       reached = λ edges tells kept start. start;
