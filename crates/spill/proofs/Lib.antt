@@ -1,6 +1,6 @@
 pub mod ChunkLemmas
+pub mod EntryLemmas
 pub mod LawLemmas
-pub mod LineLemmas
 pub mod RunNames
 pub mod SpillLemmas
 pub mod WritingLemmas

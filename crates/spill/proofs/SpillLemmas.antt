@@ -1,10 +1,12 @@
 -- The pairs that a spill holds as text, and the runs of a flush by their parts.
-use Rattle.std.proofs.Common.{◌≡◌, ◌∙◌, ap, sym, refl, subst, ℕ, ◌+◌, ◌*◌, ◌<◌, List, [], ◌∷◌, ◌++◌, Some, length, map, get_or, arith, length-append}
+use Rattle.std.proofs.Common.{◌≡◌, ◌∙◌, ap, sym, refl, subst, ℕ, ◌+◌, ◌*◌, ◌<◌, ◌≤◌, List, [], ◌∷◌, ◌++◌, Some, length, map, get_or, set, take, arith, length-append}
+use Rattle.std.specs.Global.{Vec}
 use Rattle.std.specs.List.{All, sum_by}
-use Rattle.std.proofs.lemmas.List.{length-map, map-append, get_or-map, append-nil}
-use Rattle.std.proofs.lemmas.List.Elements.{All-push}
+use Rattle.std.proofs.lemmas.List.{length-map, get_or-map, append-nil, take_at}
+use Rattle.std.proofs.lemmas.List.Elements.{All-nil, All-push}
 use Rattle.std.proofs.lemmas.List.Sorted.{length_permutation}
-use Rattle.std.proofs.lemmas.List.Sums.{sum_by-cons}
+use Rattle.std.proofs.lemmas.List.Sums.{sum_by-cons, sum_by_push}
+use Rattle.partition.specs.Hash.{part_among}
 use Rattle.peg_text.specs.Pairs.{pair_line}
 use Rattle.peg_base.specs.Names.{Names}
 use Rattle.dir_disk.specs.State.{State}
@@ -12,13 +14,15 @@ use Rattle.dir_disk.specs.Moments.{Told, Through, Both, files}
 use Rattle.dir_disk.specs.Lent.{Loan, IsFree}
 use Rattle.dir_disk.proofs.Through.{weaker}
 use Rattle.pairs.specs.Pairs.{Pair, IsPlain, pairs_text, pairs_in, sorted_pairs}
+use Rattle.pairs.specs.Prefixes.{AreBytes}
 use Rattle.pairs.proofs.PairLemmas.{pairs_read_back, texts_follow, sorted_is_permutation}
 use Rattle.pieces.specs.Pieces.{IsVacant}
 use Rattle.spill.specs.Runs.{of_part, run_of, new_runs, HasPairs, HasRuns, StandsBesideRuns, StandsButRuns}
 use Rattle.spill.specs.Chunks.{parts_of, sorted_parts_of, HasItems, list_at, StandsBesideLists, StandsButLists, HasLists, AreListsFree, AreListsVacant, AreNoted}
-use Rattle.spill.specs.Lines.{line_length}
+use Rattle.spill.specs.declared.entry.Entry.{Entry}
+use Rattle.spill.specs.Lines.{pushed_entry, entry_pairs, sorted_lists}
 use Rattle.spill.specs.Spills.{IsWell}
-use Rattle.spill.proofs.ChunkLemmas.{part_at, length-parts_of}
+use Rattle.spill.proofs.ChunkLemmas.{entries_kept, entries_pushed, length-parts_of, lists_kept, lists_pushed, none_are_entries, none_dealt, none_listed, part_at}
 use Rattle.spill.proofs.WritingLemmas.{has_place}
 
 -- ---- the text of the pairs held
@@ -31,13 +35,39 @@ pub pairs_pushed : (text : List ℕ) (p : Pair) → pairs_text (pairs_in text) �
 pairs_pushed text p lines plain fits =
     ap pairs_in (sym (text_pushed text p lines)) ∙ pairs_read_back (pairs_in text ++ p ∷ []) (All-push IsPlain (pairs_in text) p plain fits)
 
-pub well_pushed : (text sizes : List ℕ) (reducers runs : ℕ) (folder : Names) (p : Pair) → IsWell text sizes reducers runs folder → IsPlain p → IsWell (text ++ pair_line p.0 p.1) (sizes ++ line_length p ∷ []) reducers runs folder
-well_pushed text sizes reducers runs folder p well fits =
+-- there are as many lists of entries as reducers
+pub parts_counted : (text : List ℕ) (parts : List (Vec Entry)) (bytes reducers runs : ℕ) (folder : Names) → IsWell text parts bytes reducers runs folder → length parts ≡ reducers
+parts_counted text parts bytes reducers runs folder well =
+    sym (length-map parts (λ (v : Vec Entry). entry_pairs text v.items)) ∙ ap length well.dealt ∙ length-parts_of reducers (pairs_in text)
+
+pub well_pushed : (text : List ℕ) (parts : List (Vec Entry)) (entries grown : Vec Entry) (bytes reducers runs part : ℕ) (folder : Names) (p : Pair) → IsWell text parts bytes reducers runs folder → IsPlain p → AreBytes p.0 → AreBytes p.1 → part ≡ part_among p.0 reducers → part < reducers → entries ≡ get_or parts part entries → grown.items ≡ entries.items ++ pushed_entry text p ∷ [] → IsWell (text ++ pair_line p.0 p.1) (set parts part grown) (bytes + (length p.0 + length p.1)) reducers runs folder
+well_pushed text parts entries grown bytes reducers runs part folder p well fits keys values at_part below is_entries is_grown =
     let pushed : pairs_in (text ++ pair_line p.0 p.1) ≡ pairs_in text ++ p ∷ [] = pairs_pushed text p well.lines well.plain fits in
+    let held : Pair → ℕ = λ q. length q.0 + length q.1 in
+    let many = parts_counted text parts bytes reducers runs folder well in
     record {
       lines = ap pairs_text pushed ∙ text_pushed text p well.lines;
       plain = subst (λ (ps : List Pair). All IsPlain ps) (sym pushed) (All-push IsPlain (pairs_in text) p well.plain fits);
-      measured = ap (λ (ns : List ℕ). ns ++ line_length p ∷ []) well.measured ∙ sym (map-append line_length (pairs_in text) (p ∷ [])) ∙ ap (map line_length) (sym pushed);
+      entries = entries_pushed text parts entries grown part p fits keys values well.entries (omega (arith, many, below)) is_entries is_grown;
+      dealt = lists_pushed text parts entries grown reducers part (pairs_in text) p fits well.entries well.dealt at_part below is_entries is_grown ∙ ap (parts_of reducers) (sym pushed);
+      counted = ap (λ (n : ℕ). n + held p) well.counted ∙ sym (sum_by_push held (pairs_in text) p) ∙ ap (sum_by held) (sym pushed);
+      some = well.some;
+      few = well.few;
+      each_part = well.each_part;
+      short = well.short;
+    }
+
+-- a push that was refused
+pub well_kept : (text : List ℕ) (parts : List (Vec Entry)) (entries kept : Vec Entry) (bytes reducers runs part : ℕ) (folder : Names) → IsWell text parts bytes reducers runs folder → part < reducers → entries ≡ get_or parts part entries → kept.items ≡ entries.items → IsWell text (set parts part kept) bytes reducers runs folder
+well_kept text parts entries kept bytes reducers runs part folder well below is_entries is_kept =
+    let many = parts_counted text parts bytes reducers runs folder well in
+    let inside : part < length parts = omega (arith, many, below) in
+    record {
+      lines = well.lines;
+      plain = well.plain;
+      entries = entries_kept text parts entries kept part inside is_entries is_kept well.entries;
+      dealt = lists_kept text parts entries kept part is_entries is_kept ∙ well.dealt;
+      counted = well.counted;
       some = well.some;
       few = well.few;
       each_part = well.each_part;
@@ -59,12 +89,43 @@ length-pairs_text (p ∷ ps) =
     let sum = sum_by-cons (λ (q : Pair). length q.0 + length q.1) p ps in
     omega arith
 
-pub bytes_counted : (text sizes : List ℕ) (reducers runs : ℕ) (folder : Names) → IsWell text sizes reducers runs folder → length text ≡ sum_by (λ (p : Pair). length p.0 + length p.1) (pairs_in text) + 2 * length sizes
-bytes_counted text sizes reducers runs folder well =
+-- the bytes of keys and values are among those of the text
+pub bytes_inside : (text : List ℕ) (parts : List (Vec Entry)) (bytes reducers runs : ℕ) (folder : Names) → IsWell text parts bytes reducers runs folder → bytes ≤ length text
+bytes_inside text parts bytes reducers runs folder well =
     let long = ap length well.lines in
-    let parts = length-pairs_text (pairs_in text) in
-    let many : length sizes ≡ length (pairs_in text) = ap length well.measured ∙ length-map (pairs_in text) line_length in
-    omega (arith, long, parts, many)
+    let sum = length-pairs_text (pairs_in text) in
+    let is = well.counted in
+    omega (arith, long, sum, is)
+
+-- a text without bytes has no pairs, and only such a one
+pub no_pairs : (text : List ℕ) → pairs_text (pairs_in text) ≡ text → pairs_in text ≡ [] → text ≡ []
+no_pairs text lines none = sym lines ∙ ap pairs_text none
+
+-- the parts of the entries, each sorted, are those of the pairs held
+pub lists_held : (text shown : List ℕ) (parts lent : List (Vec Entry)) (bytes reducers runs : ℕ) (folder : Names) → IsWell text parts bytes reducers runs folder → shown ≡ text → lent ≡ parts → sorted_lists shown lent ≡ sorted_parts_of reducers (pairs_in text)
+lists_held text shown parts lent bytes reducers runs folder well is_shown is_lent =
+    ap (λ (t : List ℕ). sorted_lists t lent) is_shown ∙ ap (sorted_lists text) is_lent ∙ ap (map sorted_pairs) well.dealt
+
+-- nothing is held
+pub well_empty : (parts : List (Vec Entry)) (reducers runs : ℕ) (folder : Names) → All (λ (v : Vec Entry). v.items ≡ []) parts → length parts ≡ reducers → 1 ≤ reducers → reducers ≤ 100000 → runs ≡ reducers → length folder < 8 → IsWell [] parts 0 reducers runs folder
+well_empty parts reducers runs folder none many some few each_part short =
+    record {
+      lines = refl;
+      plain = All-nil IsPlain;
+      entries = none_are_entries [] parts none;
+      dealt = none_listed [] parts reducers none many ∙ none_dealt reducers;
+      counted = refl;
+      some = some;
+      few = few;
+      each_part = each_part;
+      short = short;
+    }
+
+-- the same, where the parts were lent as a slice
+pub well_emptied : (text : List ℕ) (parts behind : List (Vec Entry)) (many reducers runs : ℕ) (folder : Names) → text ≡ [] → All (λ (v : Vec Entry). v.items ≡ []) parts → length parts ≡ many → many ≡ reducers → 1 ≤ reducers → reducers ≤ 100000 → runs ≡ reducers → length folder < 8 → IsWell text (take many (parts ++ behind)) 0 reducers runs folder
+well_emptied text parts behind many reducers runs folder is none long same some few each_part short =
+    let well = well_empty parts reducers runs folder none (long ∙ same) some few each_part short in
+    subst (λ (t : List ℕ). IsWell t (take many (parts ++ behind)) 0 reducers runs folder) (sym is) (subst (λ (ps : List (Vec Entry)). IsWell [] ps 0 reducers runs folder) (sym (take_at parts behind many long)) well)
 
 -- ---- the lists of the parts
 

@@ -1,12 +1,15 @@
 -- What contracts see of a spill.
-use Rattle.std.specs.Prelude.{◌≡◌, ℕ, ◌+◌, ◌<◌, ◌≤◌, List, [], ◌∷◌, ◌++◌, All, length, map, replicate, slice_index_or}
+use Rattle.std.specs.Prelude.{◌≡◌, ℕ, ◌+◌, ◌<◌, ◌≤◌, List, [], ◌∷◌, ◌++◌, All, length, replicate, slice_index_or}
+use Rattle.std.specs.Global.{Vec}
 use Rattle.std.specs.List.{sum_by}
 use Rattle.peg_base.specs.Names.{Names}
 use Rattle.dir_disk.specs.State.{State}
 use Rattle.dir_disk.specs.Lent.{Loan, IsFree}
 use Rattle.pairs.specs.Pairs.{Pair, IsPlain, pairs_text, pairs_in}
 use Rattle.pieces.specs.Pieces.{IsVacant}
-use Rattle.spill.specs.Lines.{line_length}
+use Rattle.spill.specs.declared.entry.Entry.{Entry}
+use Rattle.spill.specs.Chunks.{parts_of}
+use Rattle.spill.specs.Lines.{AreEntries, lists_of}
 use Rattle.spill.specs.Runs.{of_part, run_of, HasPairs}
 
 -- the limit in bytes, the number of parts, the folder of the runs, the pairs held in the order in which they were pushed, how many flushes had pairs, and for each part the paths of its runs
@@ -56,11 +59,13 @@ abbrev pub number_after : List Pair → ℕ → ℕ
 number_after [] flushes = flushes
 number_after (p ∷ ps) flushes = flushes + 1
 
--- what is true of the fields: the text has the pairs held, each as a line of the length noted
-pub record IsWell (text sizes : List ℕ) (reducers runs : ℕ) (folder : Names) : Type 0 where
+-- what is true of the fields: the text has the pairs held, each as a line, and the entries of a part have its pairs
+pub record IsWell (text : List ℕ) (parts : List (Vec Entry)) (bytes reducers runs : ℕ) (folder : Names) : Type 0 where
   pub lines : pairs_text (pairs_in text) ≡ text
   pub plain : All IsPlain (pairs_in text)
-  pub measured : sizes ≡ map line_length (pairs_in text)
+  pub entries : AreEntries text parts
+  pub dealt : lists_of text parts ≡ parts_of reducers (pairs_in text)
+  pub counted : bytes ≡ sum_by (λ p. length p.0 + length p.1) (pairs_in text)
   pub some : 1 ≤ reducers
   pub few : reducers ≤ 100000
   pub each_part : runs ≡ reducers

@@ -1,80 +1,89 @@
-ghost use Rattle.std.specs.Prelude.{◌≡◌, ◌+◌, ◌<◌, ◌≤◌, [], All, drop, length, map, replicate, take, IfOk};
-ghost use Rattle.pairs.specs.Pairs.{IsPlain, pairs_in, pairs_text};
-ghost use Rattle.spill.specs.Chunks.{parts_of, sorted_parts_of};
-ghost use Rattle.spill.specs.Lines.{line_length};
+ghost use Rattle.std.specs.Prelude.{◌≡◌, ◌++◌, ◌∷◌, [], All, length, IfOk, OnOk, OnErr};
+ghost use Rattle.peg_text.specs.Pairs.{pair_line};
+ghost use Rattle.pairs.specs.Pairs.{sorted_pairs};
+ghost use Rattle.spill.specs.Lines.{AreEntries, IsEntry, pushed_entry, entry_pairs, lists_of, sorted_lists};
 
-use crate::line::Line;
-use pairs::measured_key;
-use partition::part_of;
-use peg_text::NoMemory;
+use crate::entry::{Entry, rank};
+use peg_text::{NoMemory, write_pair};
 use std::alloc::Global;
 
-/// Pairs that lie in a chunk's text.
-pub(crate) type Lines<'a> = Vec<Line<'a>>;
-
-/// As many empty lists as there are parts, each with room for so many lines.
-fn empty_parts<'a>(alloc: Global, reducers: u32, room: usize) -> Result<Vec<Lines<'a>>, NoMemory>
-    ensures { IfOk result (λ parts. map (λ pairs. pairs.items) parts.items ≡ replicate reducers []) }
+/// As many empty lists as there are parts, each with room for so many entries.
+pub(crate) fn empty_parts(
+    alloc: Global,
+    reducers: u32,
+    room: usize,
+) -> Result<Vec<Vec<Entry>>, NoMemory>
+    ensures none { IfOk result (λ parts. All (λ entries. entries.items ≡ []) parts.items) }
+    ensures len { IfOk result (λ parts. length parts.items ≡ reducers) }
 {
-    let mut parts: Vec<Lines<'a>> = Vec::new(alloc);
+    let mut parts = Vec::new(alloc);
     for _part in 0..reducers {
-        let empty: Lines<'a> = Vec::with_capacity(alloc, room)?;
+        let empty: Vec<Entry> = Vec::with_capacity(alloc, room)?;
         parts.push(empty)?;
     }
     Ok(parts)
 }
 
-/// The first bytes of a text, and what stands after the byte behind them.
-fn first_line(text: &[u8], size: usize) -> (&[u8], &[u8])
-    requires { size < length text.now }
-    ensures line { result.0.now ≡ take size text.now }
-    ensures rest { result.1.now ≡ drop (size + 1) text.now }
+/// Appends a pair as a line to a text, and its entry to those of its part. Without memory, or where the text or the
+/// line has 4 GiB or more, both are as before.
+pub(crate) fn hold(
+    alloc: Global,
+    text: &mut Vec<u8>,
+    entries: &mut Vec<Entry>,
+    key: &[u8],
+    value: &[u8],
+) -> Result<(), NoMemory>
+    ensures text { OnOk result (text.new.items ≡ text.old.items ++ pair_line key.now value.now) }
+    ensures entry { OnOk result
+        (entries.new.items ≡ entries.old.items ++ pushed_entry text.old.items (key.now, value.now) ∷ []) }
+    ensures text_kept { OnErr result (text.new.items ≡ text.old.items) }
+    ensures entries_kept { OnErr result (entries.new.items ≡ entries.old.items) }
 {
-    (&text[..size], &text[size + 1..])
+    let size = key.len() + value.len() + 1;
+    let (Ok(start), Ok(size)) = (u32::try_from(text.len()), u32::try_from(size)) else {
+        return Err(NoMemory);
+    };
+    let before = entries.len();
+    entries.push(Entry {
+        rank: rank(key),
+        start,
+        size,
+    })?;
+    match write_pair(alloc, text, key, value) {
+        Ok(()) => Ok(()),
+        Err(fault) => {
+            entries.truncate(before);
+            Err(fault)
+        }
+    }
 }
 
-/// The pairs of a text, whose lines have these lengths, by their parts, in the order of the text.
-fn deal<'a>(
-    alloc: Global,
-    text: &'a [u8],
-    sizes: &[u32],
-    reducers: u32,
-) -> Result<Vec<Lines<'a>>, NoMemory>
-    requires some { 1 ≤ reducers }
-    requires lines { pairs_text (pairs_in text.now) ≡ text.now }
-    requires plain { All IsPlain (pairs_in text.now) }
-    requires sizes { sizes.now ≡ map line_length (pairs_in text.now) }
-    ensures { IfOk result
-        (λ parts. map (λ pairs. pairs.items) parts.items ≡ parts_of reducers (pairs_in text.now)) }
+/// Sorts entries of a text by their pairs.
+fn sort_entries(text: &[u8], entries: &mut Vec<Entry>)
+    requires { All (IsEntry text.now) entries.old.items }
+    ensures are { All (IsEntry text.now) entries.new.items }
+    ensures sorted { entry_pairs text.now entries.new.items ≡ sorted_pairs (entry_pairs text.now entries.old.items) }
 {
-    let mut parts = empty_parts(alloc, reducers, sizes.len() / reducers as usize)?;
-    let mut left = text;
-    for size in sizes {
-        let (line, rest) = first_line(left, *size as usize);
-        let (key, prefix) = measured_key(line);
-        parts[part_of(&line[..key], reducers) as usize].push(Line::new(line, key, prefix))?;
-        left = rest;
-    }
-    Ok(parts)
+    entries.sort_unstable_by(|one, other| one.compare(other, text));
 }
 
-/// The pairs of a text, whose lines have these lengths, by their parts, each part sorted.
-pub(crate) fn sorted_parts<'a>(
-    alloc: Global,
-    text: &'a [u8],
-    sizes: &[u32],
-    reducers: u32,
-) -> Result<Vec<Lines<'a>>, NoMemory>
-    requires some { 1 ≤ reducers }
-    requires lines { pairs_text (pairs_in text.now) ≡ text.now }
-    requires plain { All IsPlain (pairs_in text.now) }
-    requires sizes { sizes.now ≡ map line_length (pairs_in text.now) }
-    ensures { IfOk result
-        (λ parts. map (λ pairs. pairs.items) parts.items ≡ sorted_parts_of reducers (pairs_in text.now)) }
+/// Sorts the entries of each part.
+pub(crate) fn sort_parts(text: &[u8], parts: &mut [Vec<Entry>])
+    requires { AreEntries text.now parts.old }
+    ensures are { AreEntries text.now parts.new }
+    ensures sorted { lists_of text.now parts.new ≡ sorted_lists text.now parts.old }
 {
-    let mut parts = deal(alloc, text, sizes, reducers)?;
-    for pairs in parts.iter_mut() {
-        pairs.sort_unstable();
+    for entries in parts.iter_mut() {
+        sort_entries(text, entries);
     }
-    Ok(parts)
+}
+
+/// Takes all entries out of the parts, and keeps their room.
+pub(crate) fn clear_parts(parts: &mut [Vec<Entry>])
+    ensures none { All (λ entries. entries.items ≡ []) parts.new }
+    ensures len { length parts.new ≡ length parts.old }
+{
+    for entries in parts.iter_mut() {
+        entries.clear();
+    }
 }

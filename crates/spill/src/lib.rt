@@ -2,9 +2,9 @@
 #![tactic(auto)]
 
 mod chunk;
+mod entry;
 mod fault;
 pub mod laws;
-mod line;
 mod names;
 mod spill;
 mod writing;

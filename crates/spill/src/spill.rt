@@ -1,19 +1,20 @@
-ghost use Rattle.std.specs.Prelude.{◌≡◌, ℕ, ◌+◌, ◌<◌, ◌≤◌, ◌↔◌, ◌++◌, ◌∷◌, [], length, map, All, IfOk, OnOk, OnErr, IsOk, IsTrue, replicate};
+ghost use Rattle.std.specs.Prelude.{◌≡◌, ℕ, ◌<◌, ◌≤◌, ◌↔◌, ◌++◌, [], length, map, All, IfOk, OnOk, OnErr, IsOk, IsTrue, replicate};
 ghost use Rattle.dir_disk.specs.Causes.{HasCause};
 ghost use Rattle.dir_disk.specs.Moments.{Both, Through, files};
-ghost use Rattle.peg_text.specs.Pairs.{pair_line};
-ghost use Rattle.pairs.specs.Pairs.{IsPlain, pairs_in, pairs_text};
-ghost use Rattle.spill.specs.Lines.{line_length};
+ghost use Rattle.pairs.specs.Pairs.{IsPlain};
+ghost use Rattle.spill.specs.Lines.{AreEntries, sorted_lists};
 ghost use Rattle.spill.specs.Runs.{new_runs, StandsBesideRuns, StandsButRuns, HasRuns};
-ghost use Rattle.spill.specs.Chunks.{sorted_parts_of, StandsBesideLists, StandsButLists, HasLists, AreListsFree, AreListsVacant, AreNoted};
+ghost use Rattle.spill.specs.Chunks.{StandsBesideLists, StandsButLists, HasLists, AreListsFree, AreListsVacant, AreNoted};
 ghost use Rattle.spill.specs.Spills.{empty_spill, with_pair, bytes_held, pairs_at, runs_at, next_run, AreFree, AreVacant, number_after};
 
-use crate::chunk::sorted_parts;
+use crate::chunk::{clear_parts, empty_parts, hold, sort_parts};
+use crate::entry::Entry;
 use crate::fault::SpillFault;
 use crate::writing::{note_runs, write_runs};
 use dir_disk::Dir;
+use partition::part_of;
 use peg_base::Path;
-use peg_text::{NoMemory, write_pair};
+use peg_text::NoMemory;
 use std::alloc::Global;
 use std::marker::Model;
 
@@ -29,8 +30,10 @@ pub struct Spill {
     folder: Path,
     /// The pairs held, each as a line.
     text: Vec<u8>,
-    /// How many bytes each of these lines has, without its LF.
-    sizes: Vec<u32>,
+    /// The entries of these lines, by parts, in the order in which they were pushed.
+    parts: Vec<Vec<Entry>>,
+    /// How many bytes the keys and values held have.
+    bytes: u64,
     flushes: u64,
     /// The paths of the runs, by parts.
     runs: Vec<Vec<Path>>,
@@ -45,7 +48,7 @@ impl Model for Spill {
 
     ghost view = { λ s. record { limit = s.limit; reducers = s.reducers; folder = s.folder; pairs = pairs_in s.text.items; flushes = s.flushes; runs = map (λ paths. paths.items) s.runs.items } };
 
-    ghost invariant = { λ s. IsWell s.text.items s.sizes.items s.reducers (length s.runs.items) s.folder };
+    ghost invariant = { λ s. IsWell s.text.items s.parts.items s.bytes s.reducers (length s.runs.items) s.folder };
 }
 
 impl Spill {
@@ -64,19 +67,23 @@ impl Spill {
             reducers,
             folder: folder.copy(alloc)?,
             text: Vec::with_capacity(alloc, room)?,
-            sizes: Vec::with_capacity(alloc, room / 12)?,
+            parts: empty_parts(alloc, reducers, room / 12 / reducers as usize)?,
+            bytes: 0,
             flushes: 0,
             runs,
         })
     }
 
-    /// Adds a pair. Without memory, or where its line would have 4 GiB or more, the pairs held are as before.
+    /// Adds a pair. Without memory, or where the lines held or that of the pair have 4 GiB or more, the pairs held are
+    /// as before.
     pub fn push(&mut self, alloc: Global, key: &[u8], value: &[u8]) -> Result<(), NoMemory>
         requires { IsPlain (key.now, value.now) }
         ensures pushed { OnOk result (self.new ≡ with_pair (key.now, value.now) self.old) }
         ensures no_memory { OnErr result (self.new ≡ self.old) }
     {
-        hold(alloc, &mut self.text, &mut self.sizes, key, value)?;
+        let part = part_of(key, self.reducers) as usize;
+        hold(alloc, &mut self.text, &mut self.parts[part], key, value)?;
+        self.bytes += (key.len() + value.len()) as u64;
         Ok(())
     }
 
@@ -84,7 +91,7 @@ impl Spill {
     pub fn full(&self) -> bool
         ensures { IsTrue result ↔ (self.now.limit ≤ bytes_held self.now) }
     {
-        (self.text.len() - 2 * self.sizes.len()) as u64 >= self.limit
+        self.bytes >= self.limit
     }
 
     /// Writes the pairs held as runs, one for each part that has some, and holds none then. Without pairs it makes no
@@ -113,24 +120,25 @@ impl Spill {
         ensures beside { D.beside dir.new ≡ D.beside dir.old }
         ensures cause { HasCause SpillFault.Disk (D.faults dir.old) (D.faults dir.new) result }
     {
-        if self.sizes.is_empty() {
+        if self.text.is_empty() {
             return Ok(());
         }
         let Some(next) = self.flushes.checked_add(1) else {
             return Err(SpillFault::NoMemory);
         };
-        write_chunk(
+        let written = write_chunk(
             alloc,
             dir,
             &self.folder,
             self.flushes,
             &self.text,
-            &self.sizes,
-            self.reducers,
+            &mut self.parts,
             &mut self.runs,
-        )?;
+        );
         self.text.clear();
-        self.sizes.clear();
+        clear_parts(&mut self.parts);
+        self.bytes = 0;
+        written?;
         self.flushes = next;
         Ok(())
     }
@@ -155,70 +163,39 @@ fn empty_runs(alloc: Global, reducers: u32) -> Result<Vec<Vec<Path>>, NoMemory>
     Ok(runs)
 }
 
-/// Appends a pair as a line, and the length of that line. Without memory, or where the line has 4 GiB or more, both are
-/// as before.
-fn hold(
-    alloc: Global,
-    text: &mut Vec<u8>,
-    sizes: &mut Vec<u32>,
-    key: &[u8],
-    value: &[u8],
-) -> Result<(), NoMemory>
-    ensures text { OnOk result (text.new.items ≡ text.old.items ++ pair_line key.now value.now) }
-    ensures size { OnOk result (sizes.new.items ≡ sizes.old.items ++ line_length (key.now, value.now) ∷ []) }
-    ensures text_kept { OnErr result (text.new.items ≡ text.old.items) }
-    ensures sizes_kept { OnErr result (sizes.new.items ≡ sizes.old.items) }
-{
-    let Ok(size) = u32::try_from(key.len() + value.len() + 1) else {
-        return Err(NoMemory);
-    };
-    let before = sizes.len();
-    sizes.push(size)?;
-    match write_pair(alloc, text, key, value) {
-        Ok(()) => Ok(()),
-        Err(fault) => {
-            sizes.truncate(before);
-            Err(fault)
-        }
-    }
-}
-
-/// Writes the runs of a chunk, and adds their paths to those of their parts.
+/// Sorts the entries of a chunk by parts, writes its runs, and adds their paths to those of their parts.
 fn write_chunk<D: Dir>(
     alloc: Global,
     dir: &mut D,
     folder: &Path,
     flush: u64,
     text: &[u8],
-    sizes: &[u32],
-    reducers: u32,
+    parts: &mut [Vec<Entry>],
     runs: &mut Vec<Vec<Path>>,
 ) -> Result<(), SpillFault>
-    requires some { 1 ≤ reducers }
-    requires few { reducers ≤ 100000 }
-    requires lines { pairs_text (pairs_in text.now) ≡ text.now }
-    requires plain { All IsPlain (pairs_in text.now) }
-    requires sizes { sizes.now ≡ map line_length (pairs_in text.now) }
+    requires few { length parts.old ≤ 100000 }
+    requires entries { AreEntries text.now parts.old }
     requires short { length folder.now < 8 }
-    requires runs { length runs.old.items ≡ reducers }
-    requires lent { AreListsFree folder.now flush (sorted_parts_of reducers (pairs_in text.now)) (D.lent dir.old) }
+    requires runs { length runs.old.items ≡ length parts.old }
+    requires lent { AreListsFree folder.now flush (sorted_lists text.now parts.old) (D.lent dir.old) }
     requires vacant { D.tells
-        → AreListsVacant folder.now flush (sorted_parts_of reducers (pairs_in text.now)) (files (D.told dir.old)) }
-    ensures steps { let lists = sorted_parts_of reducers (pairs_in text.now) in D.tells
+        → AreListsVacant folder.now flush (sorted_lists text.now parts.old) (files (D.told dir.old)) }
+    ensures steps { let lists = sorted_lists text.now parts.old in D.tells
         → Through (Both (StandsBesideLists folder.now flush lists (files (D.told dir.old)))) (D.told dir.old) (D.told dir.new) }
     ensures written { D.tells
-        → OnOk result (HasLists folder.now flush (sorted_parts_of reducers (pairs_in text.now)) (files (D.told dir.new))) }
-    ensures others { let lists = sorted_parts_of reducers (pairs_in text.now) in D.tells
+        → OnOk result (HasLists folder.now flush (sorted_lists text.now parts.old) (files (D.told dir.new))) }
+    ensures others { let lists = sorted_lists text.now parts.old in D.tells
         → OnOk result (StandsButLists folder.now flush lists (files (D.told dir.old)) (files (D.told dir.new))) }
+    ensures parts { length parts.new ≡ length parts.old }
     ensures len { length runs.new.items ≡ length runs.old.items }
     ensures noted { OnOk result
-        (AreNoted folder.now flush (sorted_parts_of reducers (pairs_in text.now)) (map (λ paths. paths.items) runs.old.items) (map (λ paths. paths.items) runs.new.items)) }
+        (AreNoted folder.now flush (sorted_lists text.now parts.old) (map (λ paths. paths.items) runs.old.items) (map (λ paths. paths.items) runs.new.items)) }
     ensures lent { D.lent dir.new ≡ D.lent dir.old }
     ensures beside { D.beside dir.new ≡ D.beside dir.old }
     ensures cause { HasCause SpillFault.Disk (D.faults dir.old) (D.faults dir.new) result }
 {
-    let parts = sorted_parts(alloc, text, sizes, reducers)?;
-    write_runs(alloc, dir, folder, flush, &parts)?;
-    note_runs(alloc, folder, flush, &parts, runs)?;
+    sort_parts(text, parts);
+    write_runs(alloc, dir, folder, flush, text, parts)?;
+    note_runs(alloc, folder, flush, parts, runs)?;
     Ok(())
 }

@@ -1,4 +1,4 @@
-ghost use Rattle.std.specs.Prelude.{◌≡◌, ◌<◌, ◌≤◌, ◌++◌, Some, length, map, OnOk};
+ghost use Rattle.std.specs.Prelude.{◌≡◌, ℕ, ◌<◌, ◌≤◌, ◌++◌, Some, List, All, length, map, OnOk};
 ghost use Rattle.dir_disk.specs.Causes.{HasCause};
 ghost use Rattle.dir_disk.specs.State.{StandsOutside};
 ghost use Rattle.dir_disk.specs.Moments.{Both, Through, files};
@@ -6,12 +6,12 @@ ghost use Rattle.dir_disk.specs.Keeping.{StandsBut};
 ghost use Rattle.dir_disk.specs.Lent.{IsFree};
 ghost use Rattle.pairs.specs.Pairs.{pairs_text};
 ghost use Rattle.pieces.specs.Pieces.{IsVacant};
+ghost use Rattle.spill.specs.Lines.{AreEntries, IsEntry, entry_pairs, lists_of};
 ghost use Rattle.spill.specs.Runs.{run_of, new_runs};
 ghost use Rattle.spill.specs.Chunks.{HasItems, StandsBesideRun, StandsButRun, StandsBesideLists, StandsButLists, HasLists, AreListsFree, AreListsVacant, AreNoted};
 
-use crate::chunk::Lines;
+use crate::entry::Entry;
 use crate::fault::SpillFault;
-use crate::line::Line;
 use crate::names::run_path;
 use dir_disk::Dir;
 use peg_base::Path;
@@ -19,27 +19,29 @@ use peg_text::NoMemory;
 use pieces::send_piece;
 use std::alloc::Global;
 
-/// Writes pairs to a file that isn't there yet, in pieces.
+/// Writes the pairs of entries to a file that isn't there yet, in pieces.
 fn write_pairs<D: Dir>(
     alloc: Global,
     dir: &mut D,
     path: &Path,
-    pairs: &[Line<'_>],
+    text: &[u8],
+    entries: &[Entry],
 ) -> Result<(), SpillFault>
+    requires entries { All (IsEntry text.now) entries.now }
     requires lent { IsFree (D.lent dir.old) path.now }
     requires vacant { D.tells → IsVacant path.now (files (D.told dir.old)) }
     ensures steps { D.tells
         → Through (Both (StandsOutside path.now (files (D.told dir.old)))) (D.told dir.old) (D.told dir.new) }
     ensures written { D.tells
-        → OnOk result ((files (D.told dir.new) path.now).now ≡ Some (pairs_text pairs.now)) }
+        → OnOk result ((files (D.told dir.new) path.now).now ≡ Some (pairs_text (entry_pairs text.now entries.now))) }
     ensures others { D.tells → OnOk result (StandsBut path.now (files (D.told dir.old)) (files (D.told dir.new))) }
     ensures lent { D.lent dir.new ≡ D.lent dir.old }
     ensures beside { D.beside dir.new ≡ D.beside dir.old }
     ensures cause { HasCause SpillFault.Disk (D.faults dir.old) (D.faults dir.new) result }
 {
     let mut piece = Vec::new(alloc);
-    for line in pairs {
-        line.write(alloc, &mut piece)?;
+    for entry in entries {
+        entry.write(alloc, text, &mut piece)?;
         send_piece(alloc, dir, path, &mut piece)?;
     }
     dir.append(alloc, path, &piece)?;
@@ -53,28 +55,31 @@ fn write_run<D: Dir>(
     folder: &Path,
     part: u32,
     flush: u64,
-    pairs: &[Line<'_>],
+    text: &[u8],
+    entries: &[Entry],
 ) -> Result<(), SpillFault>
     requires short { length folder.now < 8 }
-    requires lent { HasItems pairs.now → IsFree (D.lent dir.old) (run_of folder.now part flush) }
-    requires vacant { D.tells
-        → HasItems pairs.now → IsVacant (run_of folder.now part flush) (files (D.told dir.old)) }
+    requires entries { All (IsEntry text.now) entries.now }
+    requires lent { HasItems (entry_pairs text.now entries.now)
+        → IsFree (D.lent dir.old) (run_of folder.now part flush) }
+    requires vacant { D.tells → HasItems (entry_pairs text.now entries.now)
+        → IsVacant (run_of folder.now part flush) (files (D.told dir.old)) }
     ensures steps { let run = run_of folder.now part flush in D.tells
-        → Through (Both (StandsBesideRun run pairs.now (files (D.told dir.old)))) (D.told dir.old) (D.told dir.new) }
-    ensures written { D.tells
-        → OnOk result (HasItems pairs.now
-        → (files (D.told dir.new) (run_of folder.now part flush)).now ≡ Some (pairs_text pairs.now)) }
+        → Through (Both (StandsBesideRun run (entry_pairs text.now entries.now) (files (D.told dir.old)))) (D.told dir.old) (D.told dir.new) }
+    ensures written { let pairs = entry_pairs text.now entries.now in D.tells
+        → OnOk result (HasItems pairs
+        → (files (D.told dir.new) (run_of folder.now part flush)).now ≡ Some (pairs_text pairs)) }
     ensures others { let run = run_of folder.now part flush in D.tells
-        → OnOk result (StandsButRun run pairs.now (files (D.told dir.old)) (files (D.told dir.new))) }
+        → OnOk result (StandsButRun run (entry_pairs text.now entries.now) (files (D.told dir.old)) (files (D.told dir.new))) }
     ensures lent { D.lent dir.new ≡ D.lent dir.old }
     ensures beside { D.beside dir.new ≡ D.beside dir.old }
     ensures cause { HasCause SpillFault.Disk (D.faults dir.old) (D.faults dir.new) result }
 {
-    if pairs.is_empty() {
+    if entries.is_empty() {
         return Ok(());
     }
     let path = run_path(alloc, folder, part, flush)?;
-    write_pairs(alloc, dir, &path, pairs)
+    write_pairs(alloc, dir, &path, text, entries)
 }
 
 /// Writes a run for each part that has pairs.
@@ -83,45 +88,47 @@ pub(crate) fn write_runs<D: Dir>(
     dir: &mut D,
     folder: &Path,
     flush: u64,
-    parts: &[Lines<'_>],
+    text: &[u8],
+    parts: &[Vec<Entry>],
 ) -> Result<(), SpillFault>
     requires short { length folder.now < 8 }
     requires few { length parts.now ≤ 100000 }
-    requires lent { AreListsFree folder.now flush (map (λ pairs. pairs.items) parts.now) (D.lent dir.old) }
+    requires entries { AreEntries text.now parts.now }
+    requires lent { AreListsFree folder.now flush (lists_of text.now parts.now) (D.lent dir.old) }
     requires vacant { D.tells
-        → AreListsVacant folder.now flush (map (λ pairs. pairs.items) parts.now) (files (D.told dir.old)) }
-    ensures steps { let lists = map (λ pairs. pairs.items) parts.now in D.tells
+        → AreListsVacant folder.now flush (lists_of text.now parts.now) (files (D.told dir.old)) }
+    ensures steps { let lists = lists_of text.now parts.now in D.tells
         → Through (Both (StandsBesideLists folder.now flush lists (files (D.told dir.old)))) (D.told dir.old) (D.told dir.new) }
-    ensures written { let lists = map (λ pairs. pairs.items) parts.now in D.tells
+    ensures written { let lists = lists_of text.now parts.now in D.tells
         → OnOk result (HasLists folder.now flush lists (files (D.told dir.new))) }
-    ensures others { let lists = map (λ pairs. pairs.items) parts.now in D.tells
+    ensures others { let lists = lists_of text.now parts.now in D.tells
         → OnOk result (StandsButLists folder.now flush lists (files (D.told dir.old)) (files (D.told dir.new))) }
     ensures lent { D.lent dir.new ≡ D.lent dir.old }
     ensures beside { D.beside dir.new ≡ D.beside dir.old }
     ensures cause { HasCause SpillFault.Disk (D.faults dir.old) (D.faults dir.new) result }
 {
     let mut part = 0;
-    for pairs in parts {
-        write_run(alloc, dir, folder, part, flush, pairs)?;
+    for entries in parts {
+        write_run(alloc, dir, folder, part, flush, text, entries)?;
         part += 1;
     }
     Ok(())
 }
 
-/// Adds the path of its run to a part's paths, where the part has pairs.
+/// Adds the path of its run to a part's paths, where the part has entries, whatever their text.
 fn note_run(
     alloc: Global,
     folder: &Path,
     part: u32,
     flush: u64,
-    pairs: &[Line<'_>],
+    entries: &[Entry],
     paths: &mut Vec<Path>,
 ) -> Result<(), NoMemory>
     requires { length folder.now < 8 }
-    ensures { OnOk result
-        (paths.new.items ≡ paths.old.items ++ new_runs (run_of folder.now part flush) pairs.now) }
+    ensures { (text : List ℕ) → OnOk result
+        (paths.new.items ≡ paths.old.items ++ new_runs (run_of folder.now part flush) (entry_pairs text entries.now)) }
 {
-    if !pairs.is_empty() {
+    if !entries.is_empty() {
         paths.push(run_path(alloc, folder, part, flush)?)?;
     }
     Ok(())
@@ -132,19 +139,26 @@ pub(crate) fn note_runs(
     alloc: Global,
     folder: &Path,
     flush: u64,
-    lists: &[Lines<'_>],
+    parts: &[Vec<Entry>],
     runs: &mut Vec<Vec<Path>>,
 ) -> Result<(), NoMemory>
     requires short { length folder.now < 8 }
-    requires few { length lists.now ≤ 100000 }
-    requires same { length lists.now ≡ length runs.old.items }
+    requires few { length parts.now ≤ 100000 }
+    requires same { length parts.now ≡ length runs.old.items }
     ensures len { length runs.new.items ≡ length runs.old.items }
-    ensures noted { OnOk result
-        (AreNoted folder.now flush (map (λ pairs. pairs.items) lists.now) (map (λ paths. paths.items) runs.old.items) (map (λ paths. paths.items) runs.new.items)) }
+    ensures noted { (text : List ℕ) → OnOk result
+        (AreNoted folder.now flush (lists_of text parts.now) (map (λ paths. paths.items) runs.old.items) (map (λ paths. paths.items) runs.new.items)) }
 {
     let mut part = 0;
-    for pairs in lists {
-        note_run(alloc, folder, part, flush, pairs, &mut runs[part as usize])?;
+    for entries in parts {
+        note_run(
+            alloc,
+            folder,
+            part,
+            flush,
+            entries,
+            &mut runs[part as usize],
+        )?;
         part += 1;
     }
     Ok(())

@@ -1,6 +1,6 @@
 use Rattle.std.proofs.Common.{arith}
 use Rattle.pairs.proofs.PrefixLemmas.{room}
-use Rattle.spill.proofs.line.front_of.Goals as goal
+use Rattle.spill.proofs.entry.front_of.Goals as goal
 
 pub overflow_mul-number : goal.overflow_mul-number
 overflow_mul-number c =

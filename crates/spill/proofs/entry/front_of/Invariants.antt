@@ -1,6 +1,6 @@
 use Rattle.std.proofs.Common.{◌≡◌, ◌<◌, ◌^◌}
 use Rattle.pairs.specs.Prefixes.{front_number}
-use Rattle.spill.proofs.line.front_of.Given as goal
+use Rattle.spill.proofs.entry.front_of.Given as goal
 
 abbrev pub invariant-loop-at : goal.invariant-loop-at
 invariant-loop-at l = record {
