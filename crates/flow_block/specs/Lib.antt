@@ -1,0 +1,4 @@
+pub mod BlockLayouts
+pub mod BlockRoles
+pub mod BlockFolders
+pub mod Laws
