@@ -7,16 +7,15 @@ use Rattle.std.proofs.lemmas.List.Concat.{flat_map_single}
 use Rattle.std.proofs.lemmas.List.Elements.{All-weaker, All-map}
 use Rattle.graph.specs.Entries.{Entry}
 use Rattle.graph.specs.Steps.{Algorithm, Vector, step, iterate}
-use Rattle.gimv_core.specs.Algebras.{Algebra, VectorFits, EntriesFit}
+use Rattle.gimv_core.specs.Algebras.{Algebra, VectorFits}
 use Rattle.gimv_core.specs.Consequences.{first_nodes}
 use Rattle.gimv_core.specs.Laws.{IsLawful}
 use Rattle.gimv_core.proofs.Fitting.{step_fits}
 use Rattle.gimv_base.specs.BaseRules.{Reading}
 use Rattle.gimv_base.specs.Lines.{number_line}
 use Rattle.gimv_block.specs.Blocks.{block_count, block_size, nodes_of_block, all_blocks}
-use Rattle.gimv_block.specs.BlockFlow.{BlockLine, entries_of_line}
+use Rattle.gimv_block.specs.BlockFlow.{BlockLine}
 use Rattle.gimv_block.specs.BlockLines.{number_lines, parts_line}
-use Rattle.gimv_block.specs.BlockReadBack.{IsGoodLine}
 use Rattle.gimv_block.specs.BlockRecords.{block_record_of, sent_record_of, parts_record_of}
 use Rattle.gimv_block.specs.BlockRules.{new_values, new_values_line, sent_part, with_messages}
 use Rattle.gimv_block.specs.BlockValues.{differs}
@@ -37,15 +36,14 @@ use Rattle.flow_core.proofs.Joins.{Joins, WritesWhole, sends_all, passes_each}
 use Rattle.flow_core.proofs.MapPhase.{Gives}
 use Rattle.flow_core.proofs.Nodes.{nodes_keyed, leb_order}
 use Rattle.flow_core.proofs.Steps.{step_is}
-use Rattle.flow_base.specs.Laws.{IsCut}
-use Rattle.flow_base.specs.Layouts.{Sequence, sequence, change_at, number_pair, result_parts}
+use Rattle.flow_base.specs.Layouts.{sequence, change_at, result_parts}
 use Rattle.flow_base.proofs.RecordsBack.{numbered_plain}
 use Rattle.flow_block.specs.BlockFolders.{HasBlocks, line_pair}
-use Rattle.flow_block.specs.BlockLayouts.{block_pair, block_layout, places_text}
+use Rattle.flow_block.specs.BlockLayouts.{block_pair, block_layout}
 use Rattle.flow_block.specs.BlockRoles.{BlockWords, FollowsBlockRoles}
-use Rattle.flow_block.specs.Laws.{AreMadeInBlocks, IsLength}
+use Rattle.flow_block.specs.Laws.{AreMadeInBlocks}
 use Rattle.flow_block.proofs.BlockFirsts.{first_is}
-use Rattle.flow_block.proofs.BlockJoins.{blocks_few, columns_of, heads_good, joins1, joins2, parts_sent, passed, passes1, rows_of, sent_for, sent_pair, vector_pair}
+use Rattle.flow_block.proofs.BlockJoins.{blocks_few, columns_of, heads_good, joins1, joins2, parts_sent, passed, passes1, rows_of, sent_pair, vector_pair}
 use Rattle.flow_block.proofs.BlockMakes.{makes}
 
 at_most_one : (b : Bool) → cond b 0 1 ≤ 1

@@ -7,14 +7,13 @@ use Rattle.std.proofs.lemmas.Bool.{cases_Bool, eq-eqb, eqb-true, eqb-false, ne_e
 use Rattle.std.proofs.lemmas.List.{append-nil}
 use Rattle.std.proofs.lemmas.List.Concat.{flat_map_single}
 use Rattle.std.proofs.lemmas.List.Elements.{All-nil, All-cons, All-head, All-tail, All-weaker, All-map}
-use Rattle.std.proofs.lemmas.List.Folds.{flat_map-map}
 use Rattle.peg_text.specs.Pairs.{pair_line}
 use Rattle.gimv_core.specs.Algebras.{Algebra}
 use Rattle.gimv_base.specs.Lines.{with_lf}
 use Rattle.gimv_base.specs.Parts.{Part, written}
 use Rattle.gimv_base.specs.Records.{place_record_of}
 use Rattle.gimv_base.specs.Rules.{by_group, groups_of}
-use Rattle.gimv_block.specs.Blocks.{block_count, block_size, block_of, offset_of, node_at, nodes_of_block, all_blocks}
+use Rattle.gimv_block.specs.Blocks.{block_count, block_size, block_of, node_at, nodes_of_block, all_blocks}
 use Rattle.gimv_block.specs.BlockLines.{seat_pair, seat_text, values_pair}
 use Rattle.gimv_block.specs.BlockRules.{firstb_part, firstb_rule, group_rule}
 use Rattle.gimv_block.specs.Unplacing.{node_pair}

@@ -1,5 +1,5 @@
 -- The two joins of a step in blocks: the premises of one step of any form.
-use Rattle.std.proofs.Common.{◌≡◌, ◌≢◌, refl, sym, ap, ◌∙◌, true, ℕ, ◌+◌, ◌*◌, ◌<◌, ◌≤◌, ◌^◌, eqb, List, [], ◌∷◌, ◌++◌, map, length, sum_by, decimal, Some, inl, inr, arith}
+use Rattle.std.proofs.Common.{◌≡◌, ◌≢◌, refl, sym, ap, ◌∙◌, true, ℕ, ◌*◌, ◌<◌, ◌≤◌, ◌^◌, eqb, List, [], ◌∷◌, ◌++◌, map, length, sum_by, decimal, Some, inl, inr, arith}
 use Rattle.std.specs.List.{All, join_with_byte}
 use Rattle.std.specs.Ordering.{is_le}
 use Rattle.std.proofs.lemmas.Bool.{cases_Bool, lt-ltb}
@@ -28,7 +28,7 @@ use Rattle.flow_core.proofs.Joins.{Joins}
 use Rattle.flow_base.proofs.Stages.{plain_from, before_by_values}
 use Rattle.flow_block.specs.BlockFolders.{line_pair}
 use Rattle.flow_block.proofs.Listing.{line_plain}
-use Rattle.flow_block.proofs.PartsSent.{IsGoodPart, parts_fit, parts_some}
+use Rattle.flow_block.proofs.PartsSent.{parts_fit, parts_some}
 
 pub sum_most : (counts : ℕ → ℕ) → ((i : ℕ) → counts i ≤ 1) → (is : List ℕ) → sum_by counts is ≤ length is
 sum_most counts most [] = omega arith

@@ -1,5 +1,5 @@
 -- The new values of a block from all that comes to it.
-use Rattle.std.proofs.Common.{◌≡◌, refl, sym, ap, ◌∙◌, subst, ℕ, ◌+◌, ◌*◌, ◌<◌, ◌≤◌, ◌^◌, eqb, List, [], ◌∷◌, ◌++◌, map, filter, decimal, inl, inr, arith}
+use Rattle.std.proofs.Common.{◌≡◌, refl, sym, ap, ◌∙◌, subst, ℕ, ◌*◌, ◌<◌, ◌≤◌, ◌^◌, eqb, List, [], ◌∷◌, ◌++◌, map, filter, decimal, inl, inr, arith}
 use Rattle.std.specs.List.{All, flat_map}
 use Rattle.std.specs.List.Sorted.{IsPermutation}
 use Rattle.std.proofs.lemmas.Bool.{cases_Bool, eqb-true}
@@ -91,7 +91,7 @@ module _ {Val Msg Weight : Type 0} (a : Algebra Val Msg Weight) (laws : IsLawful
   -- and so the new values are those of the step
   pub makes : (j : ℕ) → IsBlock a laws len n some short few j
       → new_values_line a j (map v (nodes_of_block len n j)) (new_values a (with_messages a (λ row. a.algorithm.unit) (flat_map (λ sent. sent) (map parts (lines_to j)))) 0 (map v (nodes_of_block len n j)))
-        ≡ pair_line (vector_pair a len n (differs a.algorithm v next) next j).0 (vector_pair a len n (differs a.algorithm v next) next j).1
+      ≡ pair_line (vector_pair a len n (differs a.algorithm v next) next j).0 (vector_pair a len n (differs a.algorithm v next) next j).1
   makes j low =
       let nodes = nodes_of_block len n j in
       let sent = flat_map (λ s. s) (map parts (lines_to j)) in

@@ -1,0 +1,6 @@
+pub mod WordsBack
+pub mod Table
+pub mod BlockCounts
+pub mod AsBase
+pub mod BlockRuns
+pub mod ExamplesHold

@@ -1,0 +1,62 @@
+-- The folders of a small graph in blocks: a path of four nodes.
+use Rattle.std.specs.Prelude.{◌≡◌, true, List, [], ◌∷◌, codes, Some, None}
+use Rattle.graph.specs.declared.edges.Edge.{Edge}
+use Rattle.graph.specs.Examples.{from_to}
+use Rattle.conf.specs.declared.commands.Command.TheVariants.{Hcc}
+use Rattle.conf.specs.declared.commands.Form.TheVariants.{Block}
+use Rattle.conf.specs.declared.reading.Conf.{Conf}
+use Rattle.mining.specs.declared.place.Place.TheVariants.{Vector, Results}
+use Rattle.mining.specs.Flow.{Mining, mining_of, count_of, flow, last_of, total_in}
+use Rattle.flow_base.specs.Layouts.{Sequence}
+use Rattle.flow_block.specs.BlockLayouts.{block_layout}
+use Rattle.flow.specs.Children.{bundled}
+use Rattle.flow.specs.Iterates.{iterates_by}
+
+abbrev pub path_edges : List Edge
+path_edges = from_to 0 1 ∷ from_to 1 2 ∷ from_to 2 3 ∷ []
+
+-- its components, in blocks of two nodes
+abbrev pub path_conf : Conf
+path_conf =
+    record {
+      command = Hcc;
+      nodes = 4;
+      reducers = 1;
+      split = 4;
+      slots = 1;
+      spill = 1024;
+      form = Block;
+      block = 2;
+      iters = 1;
+      hops = 1;
+      seed = 0;
+      sym = true;
+      generated = None;
+    }
+
+abbrev pub path_labels : Sequence
+path_labels = iterates_by Hcc path_conf path_edges
+
+-- its vectors in blocks of two nodes, and one of them in blocks of three, of which the last is shorter, and two
+-- parts
+abbrev pub BlocksByExample : Type 0
+BlocksByExample =
+    (block_layout path_labels 2 4 1 0 ≡ codes "0\tV 2 0,1\n1\tV 2 2,3\n" ∷ [])
+    × (block_layout path_labels 2 4 1 1 ≡ codes "0\tV 1 0,0\n1\tV 2 1,2\n" ∷ [])
+    × (block_layout path_labels 2 4 1 2 ≡ codes "0\tV 0 0,0\n1\tV 2 0,1\n" ∷ [])
+    × (block_layout path_labels 2 4 1 3 ≡ codes "0\tV 0 0,0\n1\tV 1 0,0\n" ∷ [])
+    × (block_layout path_labels 2 4 1 4 ≡ codes "0\tV 0 0,0\n1\tV 0 0,0\n" ∷ [])
+    × (block_layout path_labels 3 4 2 1 ≡ codes "1\tV 1 2\n" ∷ codes "0\tV 2 0,0,1\n" ∷ [])
+
+abbrev pub path : Mining
+path = mining_of bundled path_conf path_edges
+
+-- what the jobs leave where the children are those of the definition: an iteration and its count, the last
+-- iteration, the result, and its one component
+abbrev pub BlockFlowByExample : Type 0
+BlockFlowByExample =
+    (flow path (Vector 2) ≡ codes "0\tV 0 0,0\n1\tV 2 0,1\n" ∷ [])
+    × (count_of path 2 ≡ Some 2)
+    × (last_of path ≡ Some 4)
+    × (flow path Results ≡ codes "0\t0\n1\t0\n2\t0\n3\t0\n" ∷ [])
+    × (total_in Hcc (flow path Results) ≡ Some 1)

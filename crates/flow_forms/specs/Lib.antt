@@ -1,0 +1,3 @@
+pub mod AsBase
+pub mod BlockForm
+pub mod Examples

@@ -1,0 +1,29 @@
+//! Each law is the contract of a function that does nothing.
+ghost use Rattle.flow_forms.specs.AsBase.{FormsEndAsBase};
+ghost use Rattle.flow_forms.specs.BlockForm.{BlockEndsAsBase, BlockFlow, FileBlockEndsAsBase, FileBlockFlow};
+ghost use Rattle.flow_forms.specs.Examples.{BlocksByExample, BlockFlowByExample};
+
+/// Where the vectors of a form count what the iterates change, and its result is read from the last of them,
+/// its run ends as that of the base form does: with the bytes of its result, and with its lines.
+pub fn forms_end_as_base()
+    ensures { FormsEndAsBase }
+{}
+
+/// Where the children are the bundled ones, each vector of the block form is so many steps, block by block,
+/// and its lines count what the last of them changed.
+pub fn block_flow()
+    ensures edges { BlockFlow }
+    ensures files { FileBlockFlow }
+{}
+
+/// A run of the block form ends as that of the base form does.
+pub fn block_ends_as_base()
+    ensures edges { BlockEndsAsBase }
+    ensures files { FileBlockEndsAsBase }
+{}
+
+/// The folders of a small graph in blocks.
+pub fn blocks_by_example()
+    ensures layouts { BlocksByExample }
+    ensures flow { BlockFlowByExample }
+{}
