@@ -11,7 +11,7 @@ use Rattle.flow.specs.Iterates.{IsLast, changed_of, result_of, total_after}
 use Rattle.flow.specs.Laws.{AreCountable}
 use Rattle.flow.proofs.Ends.{bundled_follow, last_is_one}
 use Rattle.flow_forms.specs.BlockForm.{IsBlockRun}
-use Rattle.flow_forms.specs.Examples.{path_conf, path_edges, path_labels, BlocksByExample, BlockFlowByExample}
+use Rattle.flow_forms.specs.Examples.{loop_conf, loop_edges, path_conf, path_edges, path_labels, BlocksByExample, BlockFlowByExample, BlockRanksByExample}
 use Rattle.flow_forms.proofs.BlockRuns.{block_ends_as_base, block_flow}
 
 digit : (n : ℕ) → n < 10 → decimal n ≡ (48 + n) ∷ []
@@ -37,6 +37,13 @@ edges_countable : AreCountable 4 path_edges
 edges_countable =
     let P : Edge → Type 0 = λ e. (e.source < 4) × (e.target < 4) in record {
       below = All-cons P (from_to 0 1) (from_to 1 2 ∷ from_to 2 3 ∷ []) (omega arith, omega arith) (All-cons P (from_to 1 2) (from_to 2 3 ∷ []) (omega arith, omega arith) (All-cons P (from_to 2 3) [] (omega arith, omega arith) (All-nil P)));
+      few = omega arith;
+    }
+
+loop_countable : AreCountable 2 loop_edges
+loop_countable =
+    let P : Edge → Type 0 = λ e. (e.source < 2) × (e.target < 2) in record {
+      below = All-cons P (from_to 0 1) (from_to 1 1 ∷ []) (omega arith, omega arith) (All-cons P (from_to 1 1) [] (omega arith, omega arith) (All-nil P));
       few = omega arith;
     }
 
@@ -83,3 +90,30 @@ flow_by_example =
     let has = (block_ends_as_base bundled bundled_follow path_conf is_block_run path_edges edges_countable).result in
     let last : has.last ≡ 4 = last_is_one path_conf (changed_of path_conf path_edges) has.last 4 has.first four_is_last in
     (two.vector ∙ blocks_by_example.2, two.count, has.is_last ∙ ap Some last, has.result ∙ ap (result_of path_conf path_edges) last ∙ path_result, has.total ∙ ap (λ (k : ℕ). Some (total_after path_conf path_edges k)) last)
+
+is_rank_run : IsBlockRun loop_conf
+is_rank_run = record {
+  limits = record {
+    nodes = (omega arith, omega arith);
+    reducers = (omega arith, omega arith);
+    split = (omega arith, omega arith);
+    slots = (omega arith, omega arith);
+    spill = (omega arith, omega arith);
+    block = (omega arith, omega arith);
+    iters = (omega arith, omega arith);
+    hops = (omega arith, omega arith);
+    seed = (omega arith, omega arith);
+    generated = tt;
+    form = λ other. refl;
+    plain = λ is. cc;
+    clustered = λ is. cc;
+  };
+  mines = refl;
+  form = refl;
+}
+
+pub ranks_by_example : BlockRanksByExample
+ranks_by_example =
+    let has = (block_ends_as_base bundled bundled_follow loop_conf is_rank_run loop_edges loop_countable).result in
+    let last : has.last ≡ 1 = has.first.ends in
+    has.result ∙ ap (result_of loop_conf loop_edges) last

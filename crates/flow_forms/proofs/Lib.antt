@@ -2,5 +2,6 @@ pub mod WordsBack
 pub mod Table
 pub mod BlockCounts
 pub mod AsBase
+pub mod Held
 pub mod BlockRuns
 pub mod ExamplesHold

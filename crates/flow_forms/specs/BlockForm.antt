@@ -14,6 +14,7 @@ use Rattle.flow.specs.Children.{FollowsChildren}
 use Rattle.flow.specs.Iterates.{iterates_of, changed_of}
 use Rattle.flow.specs.Laws.{AreCountable}
 use Rattle.flow_forms.specs.AsBase.{EndsAsBase}
+use Rattle.flow_forms.specs.Held.{KeepsVectors}
 
 -- a run of the block form
 pub record IsBlockRun (conf : Conf) : Type 0 where
@@ -42,6 +43,14 @@ BlockEndsAsBase =
     (gives : Giving) → FollowsChildren gives → (conf : Conf) → IsBlockRun conf → (edges : List Edge)
     → AreCountable conf.nodes edges
     → EndsAsBase gives conf edges
+
+-- wherever a machine stops, what is kept holds whole iterations, each so many steps, and the result of the last
+-- one
+abbrev pub BlockKeepsIterates : Type 0
+BlockKeepsIterates =
+    (gives : Giving) → FollowsChildren gives → (conf : Conf) → IsBlockRun conf → (edges : List Edge)
+    → AreCountable conf.nodes edges
+    → KeepsVectors gives conf edges (block_layout_of conf edges)
 
 -- ---- edges of a file
 

@@ -1,12 +1,13 @@
--- The folders of a small graph in blocks: a path of four nodes.
-use Rattle.std.specs.Prelude.{◌≡◌, true, List, [], ◌∷◌, codes, Some, None}
+-- The folders of small graphs in blocks: a path of four nodes, and two nodes for ranks.
+use Rattle.std.specs.Prelude.{◌≡◌, decimal, true, List, [], ◌∷◌, codes, Some, None}
 use Rattle.graph.specs.declared.edges.Edge.{Edge}
 use Rattle.graph.specs.Examples.{from_to}
-use Rattle.conf.specs.declared.commands.Command.TheVariants.{Hcc}
+use Rattle.conf.specs.declared.commands.Command.TheVariants.{Hcc, PageRank}
 use Rattle.conf.specs.declared.commands.Form.TheVariants.{Block}
 use Rattle.conf.specs.declared.reading.Conf.{Conf}
 use Rattle.mining.specs.declared.place.Place.TheVariants.{Vector, Results}
 use Rattle.mining.specs.Flow.{Mining, mining_of, count_of, flow, last_of, total_in}
+use Rattle.flow_core.specs.Parts.{parts_with}
 use Rattle.flow_base.specs.Layouts.{Sequence}
 use Rattle.flow_block.specs.BlockLayouts.{block_layout}
 use Rattle.flow.specs.Children.{bundled}
@@ -37,7 +38,7 @@ path_conf =
 abbrev pub path_labels : Sequence
 path_labels = iterates_by Hcc path_conf path_edges
 
--- its vectors in blocks of two nodes, and one of them in blocks of three, of which the last is shorter, and two
+-- its vectors in blocks of two nodes, and one of them in blocks of three, of which the last is shorter, in two
 -- parts
 abbrev pub BlocksByExample : Type 0
 BlocksByExample =
@@ -60,3 +61,18 @@ BlockFlowByExample =
     × (last_of path ≡ Some 4)
     × (flow path Results ≡ codes "0\t0\n1\t0\n2\t0\n3\t0\n" ∷ [])
     × (total_in Hcc (flow path Results) ≡ Some 1)
+
+-- ---- ranks
+
+-- an edge and a loop, in one block of two nodes
+abbrev pub loop_edges : List Edge
+loop_edges = from_to 0 1 ∷ from_to 1 1 ∷ []
+
+abbrev pub loop_conf : Conf
+loop_conf = record path_conf { command = PageRank; nodes = 2 }
+
+-- what one iteration leaves: the share of each message is rounded down by itself, and not the sum of those of a block
+abbrev pub BlockRanksByExample : Type 0
+BlockRanksByExample =
+    flow (mining_of bundled loop_conf loop_edges) Results
+    ≡ parts_with 1 ((decimal 0, decimal 322122547) ∷ (decimal 1, decimal 3972844747) ∷ [])

@@ -1,3 +1,4 @@
 pub mod AsBase
+pub mod Held
 pub mod BlockForm
 pub mod Examples

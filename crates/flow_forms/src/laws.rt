@@ -1,12 +1,18 @@
 //! Each law is the contract of a function that does nothing.
 ghost use Rattle.flow_forms.specs.AsBase.{FormsEndAsBase};
-ghost use Rattle.flow_forms.specs.BlockForm.{BlockEndsAsBase, BlockFlow, FileBlockEndsAsBase, FileBlockFlow};
-ghost use Rattle.flow_forms.specs.Examples.{BlocksByExample, BlockFlowByExample};
+ghost use Rattle.flow_forms.specs.BlockForm.{BlockEndsAsBase, BlockFlow, BlockKeepsIterates, FileBlockEndsAsBase, FileBlockFlow};
+ghost use Rattle.flow_forms.specs.Examples.{BlockFlowByExample, BlockRanksByExample, BlocksByExample};
+ghost use Rattle.flow_forms.specs.Held.{FormsKeepVectors};
 
 /// Where the vectors of a form count what the iterates change, and its result is read from the last of them,
 /// its run ends as that of the base form does: with the bytes of its result, and with its lines.
 pub fn forms_end_as_base()
     ensures { FormsEndAsBase }
+{}
+
+/// Each image that is kept of such a run holds whole iterations of its form, and the result of the last one.
+pub fn forms_keep_vectors()
+    ensures { FormsKeepVectors }
 {}
 
 /// Where the children are the bundled ones, each vector of the block form is so many steps, block by block,
@@ -22,8 +28,15 @@ pub fn block_ends_as_base()
     ensures files { FileBlockEndsAsBase }
 {}
 
-/// The folders of a small graph in blocks.
+/// Each image that is kept of such a run holds whole iterations, each so many steps, and the result of the last
+/// one.
+pub fn block_keeps_iterates()
+    ensures { BlockKeepsIterates }
+{}
+
+/// The folders of small graphs in blocks.
 pub fn blocks_by_example()
     ensures layouts { BlocksByExample }
     ensures flow { BlockFlowByExample }
+    ensures ranks { BlockRanksByExample }
 {}

@@ -1,0 +1,169 @@
+-- What is kept holds the vectors of a form, and the result of the last one.
+use Rattle.std.proofs.Common.{◌≡◌, refl, sym, ap, ◌∙◌, subst, ℕ, zero, suc, ◌^◌, ◌<◌, ◌≤◌, ◌⊎◌, List, Option, Some, None, inl, inr, arith}
+use Rattle.std.specs.Prelude.{IsSome, IfSome, unwrap_or}
+use Rattle.std.proofs.lemmas.Bool.{cases_lt, false≢true}
+use Rattle.graph.specs.declared.edges.Edge.{Edge}
+use Rattle.graph.specs.Entries.{hadi_entries}
+use Rattle.hadi.specs.Radii.{IsRadius}
+use Rattle.conf.specs.declared.reading.Conf.{Conf}
+use Rattle.conf.specs.Limits.{IsWithinLimits}
+use Rattle.dir_disk.specs.State.{Content, Image}
+use Rattle.committer.specs.Paths.{success_of}
+use Rattle.job.specs.Whole.{HasOutputIfWhole}
+use Rattle.mining.specs.declared.place.Place.TheVariants.{Vector, Results}
+use Rattle.mining.specs.Flow.{flow, last_of, mining_of}
+use Rattle.mining.specs.Kept.{Has, Kept}
+use Rattle.mining.specs.Places.{folder_of, is_sealed, rank_of}
+use Rattle.mining.proofs.LastLemmas.{most_small}
+use Rattle.flow_core.specs.Following.{Giving}
+use Rattle.flow.specs.Held.{IsWholeUpTo}
+use Rattle.flow.specs.Iterates.{result_of}
+use Rattle.flow.specs.Laws.{HasResult}
+use Rattle.flow_forms.specs.AsBase.{EndsAsBase}
+use Rattle.flow_forms.specs.Held.{HoldsAll, HoldsVectors, FormsKeepVectors}
+use Rattle.flow_forms.proofs.AsBase.{forms_end_as_base}
+
+-- ---- the newest iteration that an image has whole
+
+there_or_not : (content : Content) → IsSome content ⊎ (IsSome content → ⊥)
+there_or_not None = inr (λ is. false≢true is)
+there_or_not (Some bytes) = inl refl
+
+-- of the iterations up to n
+abbrev IsNewest : ℕ → Image → Option ℕ → Type 0
+IsNewest n image None = (j : ℕ) → j ≤ n → Has (Vector j) image → ⊥
+IsNewest n image (Some k) =
+    (k ≤ n) × Has (Vector k) image × ((j : ℕ) → k < j → j ≤ n → Has (Vector j) image → ⊥)
+
+record Newest (n : ℕ) (image : Image) : Type 0 where
+  found : Option ℕ
+  is : IsNewest n image found
+
+one_more : (n : ℕ) (image : Image) (found : Option ℕ) → (Has (Vector (suc n)) image → ⊥) → IsNewest n image found → IsNewest (suc n) image found
+one_more n image None isnt none =
+    λ j low has. elim (cases_lt j (suc n)) [
+      | inl below ↦ none j (omega (arith, below)) has
+      | inr above ↦ let same : j ≡ suc n = omega (arith, above, low) in isnt (subst (λ (i : ℕ). Has (Vector i) image) same has)
+    ]
+one_more n image (Some k) isnt is =
+    let few = is.0 in (
+      omega (arith, few),
+      is.1,
+      λ j late low has. elim (cases_lt j (suc n)) [
+        | inl below ↦ is.2 j late (omega (arith, below)) has
+        | inr above ↦ let same : j ≡ suc n = omega (arith, above, low) in isnt (subst (λ (i : ℕ). Has (Vector i) image) same has)
+      ],
+    )
+
+newest : (n : ℕ) (image : Image) → Newest n image
+newest zero image =
+    elim (there_or_not (image (success_of (folder_of (Vector 0))))) [
+      | inl is ↦ record { found = Some 0; is = (omega arith, is, λ j late low has. absurd (omega (arith, late, low))) }
+      | inr isnt ↦ record { found = None; is = λ j low has. let same : j ≡ 0 = omega (arith, low) in isnt (subst (λ (i : ℕ). Has (Vector i) image) same has) }
+    ]
+newest (suc n) image =
+    elim (there_or_not (image (success_of (folder_of (Vector (suc n)))))) [
+      | inl is ↦ record { found = Some (suc n); is = (omega arith, is, λ j late low has. absurd (omega (arith, late, low))) }
+      | inr isnt ↦ let before = newest n image in record { found = before.found; is = one_more n image before.found isnt before.is }
+    ]
+
+newest_few : (n : ℕ) (image : Image) (found : Option ℕ) → IsNewest n image found → IfSome found (λ k. k ≤ n)
+newest_few n image None is = tt
+newest_few n image (Some k) is = is.0
+
+-- ---- what is whole in what is kept
+
+module _ (gives : Giving) (conf : Conf) (edges : List Edge) (last : ℕ) (is_last : last_of (mining_of gives conf edges) ≡ Some last) (small : last < 10 ^ 10) (image : Image) (kept : Kept (mining_of gives conf edges) image) where
+  allowed : (j : ℕ) → j ≤ last → IfSome (last_of (mining_of gives conf edges)) (λ l. j ≤ l)
+  allowed j low = subst (λ (found : Option ℕ). IfSome found (λ l. j ≤ l)) (sym is_last) low
+
+  bounded : (j : ℕ) → j < 10 ^ 10 → Has (Vector j) image → j ≤ last
+  bounded j few has = subst (λ (found : Option ℕ). IfSome found (λ l. j ≤ l)) is_last (kept.bounds (Vector j) few has)
+
+  before_vector : (j k : ℕ) → j < k → k ≤ last → Has (Vector k) image → Has (Vector j) image
+  unfolding rank_of
+  before_vector j k less low has =
+      kept.order (Vector k) (Vector j) (omega (arith, low, small)) refl (record {
+        before = omega (arith, less);
+        is_there = omega (arith, less, low, small);
+        made = refl;
+        stays = refl;
+        up_to = allowed j (omega (arith, less, low));
+      }) has
+
+  before_result : (k : ℕ) → k ≤ last → Has Results image → Has (Vector k) image
+  unfolding rank_of
+  before_result k low has =
+      kept.order Results (Vector k) tt refl (record {
+        before = omega (arith, low, small);
+        is_there = omega (arith, low, small);
+        made = refl;
+        stays = refl;
+        up_to = allowed k low;
+      }) has
+
+  whole_up_to : (found : Option ℕ) → IsNewest last image found → IsWholeUpTo found image
+  whole_up_to None none = λ j few has. none j (bounded j few has) has
+  whole_up_to (Some k) is =
+      let low = is.0 in (
+        λ j le. elim (cases_lt j k) [
+          | inl less ↦ before_vector j k less low is.1
+          | inr above ↦ let same : k ≡ j = omega (arith, above, le) in subst (λ (i : ℕ). Has (Vector i) image) same is.1
+        ],
+        λ j few has. elim (cases_lt k j) [
+          | inl late ↦ absurd (is.2 j late (bounded j few has) has)
+          | inr le ↦ le
+        ],
+      )
+
+-- ---- what they hold
+
+module _ (gives : Giving) (conf : Conf) (limits : IsWithinLimits conf) (edges : List Edge) (ends : EndsAsBase gives conf edges)
+    (vector : ℕ → List (List ℕ)) (vectors : (k : ℕ) → flow (mining_of gives conf edges) (Vector k) ≡ vector k) (image : Image) (kept : Kept (mining_of gives conf edges) image) where
+  abbrev has : HasResult gives conf edges
+  has = ends.result
+
+  last_small : has.last < 10 ^ 10
+  last_small = let soon = has.soon in let small = most_small conf limits in omega (arith, soon, small)
+
+  vector_held : (k : ℕ) → k < 10 ^ 10 → HasOutputIfWhole (folder_of (Vector k)) (vector k) image
+  vector_held k few =
+      subst (λ (parts : List (List ℕ)). HasOutputIfWhole (folder_of (Vector k)) parts image) (vectors k) (kept.contents (Vector k) few (λ same. false≢true (ap is_sealed same)))
+
+  result_held : HasOutputIfWhole (folder_of Results) (result_of conf edges has.last) image
+  result_held =
+      subst (λ (parts : List (List ℕ)). HasOutputIfWhole (folder_of Results) parts image) has.result (kept.contents Results tt (λ same. false≢true (ap is_sealed same)))
+
+  holds_vectors : HoldsVectors conf edges vector image
+  holds_vectors =
+      let front = newest has.last image in record {
+        newest = front.found;
+        whole = whole_up_to gives conf edges has.last has.is_last last_small image kept front.found front.is;
+        last = has.last;
+        is_last = has.first;
+        few = newest_few has.last image front.found front.is;
+        vectors = vector_held;
+        result = result_held;
+      }
+
+  holds_all : Has Results image → HoldsAll conf edges vector image
+  holds_all whole = record {
+    last = has.last;
+    is_last = has.first;
+    soon = has.soon;
+    vectors = λ k low. let there = before_result gives conf edges has.last has.is_last last_small image kept k low whole in (there, vector_held k (omega (arith, low, last_small)) there);
+    whole = whole;
+    result = result_held whole;
+    least = λ is labels are. sym has.result ∙ (ends.components is).least labels are;
+    radii = λ is radius are.
+        let end = ends.radii is in
+        let same : has.last ≡ end.last = ap (λ (found : Option ℕ). unwrap_or found 0) (sym has.is_last ∙ end.is_last) in
+        sym has.result ∙ end.radii radius (λ node low. subst (λ (l : ℕ). IsRadius conf.seed (hadi_entries conf.sym edges) l node (radius node)) same (are node low));
+  }
+
+pub forms_keep_vectors : FormsKeepVectors
+forms_keep_vectors gives children conf limits mines edges good tells vector vectors =
+    let ends = forms_end_as_base gives children conf limits mines edges good tells in record {
+      iterates = holds_vectors gives conf limits edges ends vector vectors;
+      all = holds_all gives conf limits edges ends vector vectors;
+    }
