@@ -2,7 +2,8 @@
 use Rattle.std.specs.Prelude.{ℕ, List}
 use Rattle.gimv_core.specs.Algebras.{Algebra}
 use Rattle.gimv_base.specs.BaseRules.{id_rule}
-use Rattle.gimv_block.specs.BlockRules.{group_rule, firstb_rule, cut_rule, blocks_rule, block1_rule, block2_rule, unblock_rule}
+use Rattle.gimv_block.specs.BlockRules.{group_rule, firstb_rule, cut_rule, blocks_rule}
+use Rattle.gimv_block.specs.BlockRules.{block1_rule, block2_rule, unblock_rule}
 use Rattle.flow_core.specs.Following.{Giving, Follows}
 
 -- the words of each role
@@ -17,8 +18,8 @@ pub record BlockWords : Type 0 where
   pub unblock : List (List ℕ)
 
 -- children of these words write what the roles of the algorithm over n nodes give, in blocks of this length
-pub record FollowsBlockRoles {Val Msg Weight : Type 0} (gives : Giving) (a : Algebra Val Msg Weight) (len n : ℕ)
-    (words : BlockWords) : Type 0 where
+pub record FollowsBlockRoles {Val Msg Weight : Type 0} (gives : Giving) (a : Algebra Val Msg Weight)
+    (len n : ℕ) (words : BlockWords) : Type 0 where
   pub copy : Follows gives words.copy id_rule
   pub group : Follows gives words.group (group_rule len)
   pub firstb : Follows gives words.firstb (firstb_rule a len n)

@@ -10,7 +10,7 @@ use Rattle.flow_core.specs.Following.{Giving, Follows}
 use Rattle.flow_core.specs.Jobs.{Cut, job_by}
 use Rattle.flow_core.specs.Places.{over_places}
 use Rattle.flow_base.specs.Laws.{IsCut}
-use Rattle.flow_base.specs.Layouts.{sequence, result_parts}
+use Rattle.flow_base.specs.Layouts.{Sequence, sequence, result_parts}
 use Rattle.flow_base.specs.Matrices.{HasMatrix}
 use Rattle.flow_block.specs.BlockFolders.{HasBlocks}
 use Rattle.flow_block.specs.BlockLayouts.{block_layout, places_text}
@@ -27,7 +27,8 @@ pub record IsLength (len : ℕ) : Type 0 where
 abbrev pub BlocksHoldEntries : Type 0 → Type 0 → Type 0 → Type 0
 BlocksHoldEntries Val Msg Weight =
     (gives : Giving) (len : ℕ) → 1 ≤ len → (cut_words blocks_words : List (List ℕ))
-    → Follows gives cut_words (cut_rule len) → Follows gives blocks_words blocks_rule → (cut : Cut) → IsCut cut
+    → Follows gives cut_words (cut_rule len) → Follows gives blocks_words blocks_rule
+    → (cut : Cut) → IsCut cut
     → (a : Algebra Val Msg Weight) (number : Weight → ℕ) (n : ℕ) → n ≤ 2 ^ 32
     → (entries : List (Entry Weight)) (matrix : List (List ℕ)) → HasMatrix a number n entries matrix
     → HasBlocks a number len n entries (job_by gives cut cut_words blocks_words matrix)
@@ -44,7 +45,12 @@ pub record AreMadeInBlocks (gives : Giving) (words : BlockWords) (cut : Cut) (n 
       ≡ job_by gives cut words.copy words.block2
       (job_by gives cut words.copy words.block1 (blocks ++ folder k))
 
--- they hold the iterates: a place begins with the first value of its node
+-- the iterates over places: a place begins with the first value of the node there
+abbrev pub iterates_at : {Val Msg Weight : Type 0} → (ℕ → ℕ) → Algebra Val Msg Weight → List (Entry Weight)
+    → Sequence
+iterates_at id a entries = sequence a (iterate (over_places id a.algorithm) entries)
+
+-- they hold the iterates
 abbrev pub BlockVectorsAreIterates : Type 0 → Type 0 → Type 0 → Type 0
 BlockVectorsAreIterates Val Msg Weight =
     (gives : Giving) (a : Algebra Val Msg Weight) → IsLawful a → (len n : ℕ) → IsLength len → n ≤ 2 ^ 32
@@ -53,7 +59,7 @@ BlockVectorsAreIterates Val Msg Weight =
     → HasBlocks a number len n entries blocks
     → (id : ℕ → ℕ) → ((p : ℕ) → p < n → id p < n)
     → (folder : ℕ → List (List ℕ)) → AreMadeInBlocks gives words cut n id blocks folder
-    → (k : ℕ) → folder k ≡ block_layout (sequence a (iterate (over_places id a.algorithm) entries)) len n cut.reducers k
+    → (k : ℕ) → folder k ≡ block_layout (iterates_at id a entries) len n cut.reducers k
 
 -- what is made of a vector in blocks has the numbers of its values, as in the base form
 abbrev pub BlockResultsAreNumbers : Type 0 → Type 0 → Type 0 → Type 0

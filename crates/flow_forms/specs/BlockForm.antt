@@ -44,8 +44,8 @@ BlockEndsAsBase =
     → AreCountable conf.nodes edges
     → EndsAsBase gives conf edges
 
--- wherever a machine stops, what is kept holds whole iterations, each so many steps, and the result of the last
--- one
+-- wherever a machine stops, what is kept holds whole iterations, each so many steps, and the result of the
+-- last one
 abbrev pub BlockKeepsIterates : Type 0
 BlockKeepsIterates =
     (gives : Giving) → FollowsChildren gives → (conf : Conf) → IsBlockRun conf → (edges : List Edge)

@@ -38,8 +38,8 @@ path_conf =
 abbrev pub path_labels : Sequence
 path_labels = iterates_by Hcc path_conf path_edges
 
--- its vectors in blocks of two nodes, and one of them in blocks of three, of which the last is shorter, in two
--- parts
+-- its vectors in blocks of two nodes; and one of them in two parts, in blocks of three nodes, of which the last
+-- is shorter
 abbrev pub BlocksByExample : Type 0
 BlocksByExample =
     (block_layout path_labels 2 4 1 0 ≡ codes "0\tV 2 0,1\n1\tV 2 2,3\n" ∷ [])
@@ -71,7 +71,7 @@ loop_edges = from_to 0 1 ∷ from_to 1 1 ∷ []
 abbrev pub loop_conf : Conf
 loop_conf = record path_conf { command = PageRank; nodes = 2 }
 
--- what one iteration leaves: the share of each message is rounded down by itself, and not the sum of those of a block
+-- what one iteration leaves: the share of each message is rounded down by itself, and not the sum of a block
 abbrev pub BlockRanksByExample : Type 0
 BlockRanksByExample =
     flow (mining_of bundled loop_conf loop_edges) Results

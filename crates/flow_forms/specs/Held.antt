@@ -21,8 +21,8 @@ use Rattle.flow.specs.Iterates.{IsLast, changed_of, result_of}
 use Rattle.flow.specs.Laws.{AreCountable, parts_of_numbers}
 use Rattle.flow_forms.specs.AsBase.{TellsIterates}
 
--- whole iterations 0 to k, none after the last one, each with these parts; and a result, where it is whole, is
--- that of the last one
+-- whole iterations 0 to k, none after the last one, each with these parts; and a result, where it is whole,
+-- is that of the last one
 pub record HoldsVectors (conf : Conf) (edges : List Edge) (vector : ℕ → List (List ℕ)) (image : Image)
     : Type 0 where
   pub newest : Option ℕ
@@ -51,7 +51,8 @@ pub record HoldsAll (conf : Conf) (edges : List Edge) (vector : ℕ → List (Li
       → IsRadius conf.seed (hadi_entries conf.sym edges) last node (radius node))
       → result_of conf edges last ≡ parts_of_numbers conf radius
 
--- wherever a machine stops, what is kept holds iterations of the form, and where the result is whole, all of it
+-- wherever a machine stops, what is kept holds iterations of the form, and where the result is whole, all of
+-- it
 pub record KeepsVectors (gives : Giving) (conf : Conf) (edges : List Edge) (vector : ℕ → List (List ℕ))
     : Type 0 where
   pub iterates : (image : Image) → Kept (mining_of gives conf edges) image
