@@ -53,7 +53,7 @@ filter_all : {A : Type 0} (p : A → Bool) (xs : List A) → All (λ x. p x ≡ 
 filter_all p [] all = refl
 filter_all p (x ∷ xs) all = let here = All-head (λ y. p y ≡ true) x xs all in rw here (ap (λ l. x ∷ l) (filter_all p xs (All-tail (λ y. p y ≡ true) x xs all)))
 
-flat_map_where : {I A : Type 0} (test : I → Bool) (f : I → List A) (is : List I) → flat_map (λ i. cond (test i) (f i) []) is ≡ flat_map f (filter test is)
+pub flat_map_where : {I A : Type 0} (test : I → Bool) (f : I → List A) (is : List I) → flat_map (λ i. cond (test i) (f i) []) is ≡ flat_map f (filter test is)
 flat_map_where test f [] = refl
 flat_map_where test f (i ∷ is) =
     let later = flat_map_where test f is in
@@ -62,7 +62,7 @@ flat_map_where test f (i ∷ is) =
       | inr gone ↦ rw gone later
     ]
 
-turned : (i j : ℕ) → eqb i j ≡ eqb j i
+pub turned : (i j : ℕ) → eqb i j ≡ eqb j i
 turned i j =
     elim (cases_Bool (eqb j i)) [
       | inl is ↦ eq-eqb i j (sym (eqb-true j i is)) ∙ sym is

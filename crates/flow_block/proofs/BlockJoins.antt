@@ -58,7 +58,7 @@ module _ {Val Msg Weight : Type 0} (a : Algebra Val Msg Weight) (laws : IsLawful
     abbrev pub head : ℕ → Pair
     head j = vector_pair a len n counts v j
 
-    values_long : (j : ℕ) → length (values j) ≡ block_size len n j
+    pub values_long : (j : ℕ) → length (values j) ≡ block_size len n j
     values_long j = length-map-range_with_len v (j * len) (block_size len n j)
 
     pub changes_few : (j : ℕ) → sum_by counts (nodes_of_block len n j) ≤ 256
@@ -142,7 +142,7 @@ module _ {Val Msg Weight : Type 0} (a : Algebra Val Msg Weight) (laws : IsLawful
           first rows [] some' all = absurd (some' refl)
           first rows (e ∷ es) some' all = parts_some a rows (item_message line e) (map (item_message line) es) (All-head (λ (d : Entry Weight). d.row < rows) e es all)
 
-      parts_back : (line : BlockLine Weight) → GoodLine line → ReadsAs (parts_record_of a (rows_in line)) (record_of (sent_pair line)) (Some (parts_sent line))
+      pub parts_back : (line : BlockLine Weight) → GoodLine line → ReadsAs (parts_record_of a (rows_in line)) (record_of (sent_pair line)) (Some (parts_sent line))
       parts_back line good =
           let low = good.row_low in
           parts_read_back a laws line.row_block (rows_in line) (parts_sent line) (omega (arith, low, blocks_few)) (omega (arith, size_few line.row_block)) (sent_some line good) (parts_fit a laws (rows_in line) (passed_by a.algorithm len v line) (passed_fit line good))

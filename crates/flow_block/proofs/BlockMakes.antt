@@ -28,7 +28,7 @@ use Rattle.list_laws.proofs.Orders.{in_order_flat}
 use Rattle.flow_core.proofs.Items.{items_of, sorted_of}
 use Rattle.flow_block.proofs.BlockJoins.{IsBlock, parts_sent, sent_pair, vector_pair}
 
-messages_in-flat : {Msg L : Type 0} (row : ℕ) (f : L → List (ℕ × Msg)) (ls : List L) → messages_in row (flat_map f ls) ≡ flat_map (λ l. messages_in row (f l)) ls
+pub messages_in-flat : {Msg L : Type 0} (row : ℕ) (f : L → List (ℕ × Msg)) (ls : List L) → messages_in row (flat_map f ls) ≡ flat_map (λ l. messages_in row (f l)) ls
 messages_in-flat row f [] = refl
 messages_in-flat {Msg} row f (l ∷ ls) = messages_in-append row (f l) (flat_map f ls) ∙ ap (λ (ms : List Msg). messages_in row (f l) ++ ms) (messages_in-flat row f ls)
 
