@@ -1,8 +1,11 @@
 -- A run whose vectors count what the iterates change ends as that of the base form does.
-use Rattle.std.proofs.Common.{◌≡◌, refl, sym, ap, ◌∙◌, subst, true, ◌&&◌, eqb, leb, ℕ, ◌+◌, ◌-◌, ◌≤◌, List, ◌++◌, Option, Some, None}
-use Rattle.std.specs.Prelude.{◌==◌, ◌||◌, unwrap_or}
-use Rattle.std.specs.List.{find, flat_map, range_with_len}
+use Rattle.std.proofs.Common.{◌≡◌, refl, sym, ap, ◌∙◌, subst, true, ◌&&◌, eqb, leb, ℕ, ◌+◌, ◌-◌, ◌<◌, ◌≤◌, List, ◌++◌, Option, Some, None}
+use Rattle.std.specs.Prelude.{◌||◌, slice_index, unwrap_or}
+use Rattle.std.specs.List.{find, range_with_len}
 use Rattle.graph.specs.declared.edges.Edge.{Edge}
+use Rattle.graph.specs.Entries.{hadi_entries}
+use Rattle.graph.specs.Walks.{AreLeast}
+use Rattle.hadi.specs.Radii.{IsRadius}
 use Rattle.conf.specs.declared.commands.Command.{Command}
 use Rattle.conf.specs.declared.commands.Command.TheVariants.{Plain, Hcc, Hadi, PageRank}
 use Rattle.conf.specs.declared.reading.Conf.{Conf}
@@ -10,21 +13,18 @@ use Rattle.conf.specs.Commands.{is_mining}
 use Rattle.conf.specs.Limits.{IsWithinLimits}
 use Rattle.mining.specs.declared.place.Place.TheVariants.{Results}
 use Rattle.mining.specs.Flow.{mining_of, flow, count_of, ends_at_most, ends_unchanged, is_end, is_unchanged, last_of, most_of, total_in}
-use Rattle.mining.specs.Iterations.{console, console_after, done_line_at, line_at}
-use Rattle.report.specs.Lines.{done_text, iteration_text, resumed_text}
-use Rattle.list_laws.proofs.Alls.{all_each}
-use Rattle.list_laws.proofs.Images.{flat_map_agree}
 use Rattle.flow_core.specs.Following.{Giving}
 use Rattle.flow_base.specs.Layouts.{Sequence, changed_in, result_parts}
 use Rattle.flow.specs.Children.{FollowsChildren}
-use Rattle.flow.specs.Iterates.{IsBaseRun, iterates_by, changed_of, result_of, total_after, total_by, EndsAt, IsLast}
-use Rattle.flow.specs.Held.{iterate_line, iterates_after, iterates_console, iterates_done}
-use Rattle.flow.specs.Laws.{AreCountable, EndsAtLeastLabels, EndsAtRadii, HasResult}
+use Rattle.flow.specs.Iterates.{IsBaseRun, iterates_by, iterates_of, changed_of, result_of, total_after, total_by, EndsAt, IsLast}
+use Rattle.flow.specs.Laws.{AreCountable, HasResult, parts_of_numbers}
 use Rattle.flow.proofs.Base.{base_flow}
-use Rattle.flow.proofs.Ends.{base_result, components_end, last_is_one, ranks_end}
+use Rattle.flow.proofs.Ends.{base_result, components_end}
 use Rattle.flow.proofs.Radii.{radii_end}
 use Rattle.flow.proofs.Searches.{find_agree}
-use Rattle.flow_forms.specs.AsBase.{as_base, TellsIterates, IsAsBase, EndsAsBase, FormsEndAsBase}
+use Rattle.flow_forms.specs.AsBase.{as_base, TellsIterates, FormsEndAsBase}
+use Rattle.flow_forms.specs.Ends.{EndsWith}
+use Rattle.flow_forms.proofs.Says.{said_is}
 
 -- ---- the base form has the same settings
 
@@ -124,72 +124,36 @@ module _ (gives : Giving) (children : FollowsChildren gives) (conf : Conf) (limi
   result_same : flow (mining_of gives conf edges) Results ≡ flow (mining_of gives base edges) Results
   result_same = result_is ∙ sym (has_base.result ∙ same_result conf edges has_base.last)
 
-  has_result : HasResult gives conf edges
-  has_result = record {
+  total_is : total_in conf.command (flow (mining_of gives conf edges) Results) ≡ Some (total_after conf edges has_base.last)
+  total_is = ap (total_in conf.command) result_same ∙ has_base.total ∙ ap Some (same_total conf edges has_base.last)
+
+  least_is : conf.command ≡ Hcc → (labels : List ℕ) → AreLeast conf.nodes edges labels → result_of conf edges has_base.last ≡ parts_of_numbers conf (λ node. slice_index labels node)
+  least_is is labels are = sym result_is ∙ result_same ∙ (components_end gives children base (base_run conf limits mines) is edges good).least labels are
+
+  radii_are : conf.command ≡ Hadi → (radius : ℕ → ℕ) → ((node : ℕ) → node < conf.nodes → IsRadius conf.seed (hadi_entries conf.sym edges) has_base.last node (radius node))
+      → result_of conf edges has_base.last ≡ parts_of_numbers conf radius
+  radii_are is radius are =
+      let end = radii_end gives children base (base_run conf limits mines) is edges good in
+      let same : has_base.last ≡ end.last = ap (λ (found : Option ℕ). unwrap_or found 0) (sym has_base.is_last ∙ end.is_last) in
+      sym result_is ∙ result_same ∙ end.radii radius (λ node low. subst (λ (l : ℕ). IsRadius conf.seed (hadi_entries conf.sym edges) l node (radius node)) same (are node low))
+
+  ends_with : EndsWith gives conf edges (iterates_of conf edges)
+  ends_with = record {
     last = has_base.last;
     is_last = is_last;
     first = last_back conf edges has_base.last has_base.first;
     soon = subst (λ (most : ℕ). has_base.last ≤ most) (same_most conf.command conf) has_base.soon;
     result = result_is;
-    total = ap (total_in conf.command) result_same ∙ has_base.total ∙ ap Some (same_total conf edges has_base.last);
-  }
-
-  is_as_base : IsAsBase gives conf edges
-  is_as_base = record { counts = counts_same; last = last_same; result = result_same }
-
-  -- ---- each command
-
-  components_end_so : conf.command ≡ Hcc → EndsAtLeastLabels gives conf edges
-  components_end_so is =
-      let ends = components_end gives children base (base_run conf limits mines) is edges good in record {
-        last = ends.last;
-        is_last = last_same ∙ ends.is_last;
-        soon = ends.soon;
-        least = λ labels are. result_same ∙ ends.least labels are;
-      }
-
-  radii_end_so : conf.command ≡ Hadi → EndsAtRadii gives conf edges
-  radii_end_so is =
-      let ends = radii_end gives children base (base_run conf limits mines) is edges good in record {
-        last = ends.last;
-        is_last = last_same ∙ ends.is_last;
-        soon = ends.soon;
-        radii = λ radius are. result_same ∙ ends.radii radius are;
-      }
-
-  -- ---- what is said
-
-  line_is : (k : ℕ) → line_at (mining_of gives conf edges) k ≡ iterate_line conf edges k
-  line_is k = ap (λ (count : Option ℕ). iteration_text k (unwrap_or count 0)) (tells.counts k)
-
-  module _ (last : ℕ) (first : IsLast conf (changed_of conf edges) last) where
-    same_last : has_result.last ≡ last
-    same_last = last_is_one conf (changed_of conf edges) has_result.last last has_result.first first
-
-    done_is : done_line_at (mining_of gives conf edges) last ≡ iterates_done conf edges last
-    done_is =
-        ap (λ (count : Option ℕ). done_text conf last (is_unchanged count) (unwrap_or (total_in conf.command (flow (mining_of gives conf edges) Results)) 0)) (tells.counts last)
-        ∙ ap (λ (total : Option ℕ). done_text conf last (changed_of conf edges last == 0) (unwrap_or total 0)) (has_result.total ∙ ap (λ (l : ℕ). Some (total_after conf edges l)) same_last)
-
-    after_is : (k : ℕ) → console_after (mining_of gives conf edges) k last ≡ iterates_after conf edges k last
-    after_is k =
-        let later = range_with_len (k + 1) (last - k) in
-        ap (λ bytes. bytes ++ done_line_at (mining_of gives conf edges) last) (flat_map_agree (line_at (mining_of gives conf edges)) (iterate_line conf edges) later (all_each (λ j. line_at (mining_of gives conf edges) j ≡ iterate_line conf edges j) line_is later))
-        ∙ ap (λ bytes. flat_map (iterate_line conf edges) later ++ bytes) done_is
-
-    said_is : (k : Option ℕ) → console (mining_of gives conf edges) k last ≡ iterates_console conf edges k last
-    said_is None = ap (λ bytes. bytes ++ console_after (mining_of gives conf edges) 0 last) (line_is 0) ∙ ap (λ bytes. iterate_line conf edges 0 ++ bytes) (after_is 0)
-    said_is (Some k) = ap (λ bytes. resumed_text k ++ bytes) (after_is k)
-
-  ends_as_base : EndsAsBase gives conf edges
-  ends_as_base = record {
-    same = is_as_base;
-    result = has_result;
-    components = components_end_so;
-    ranks = λ is. last_same ∙ ranks_end gives children base (base_run conf limits mines) is edges good;
-    radii = radii_end_so;
-    says = said_is;
+    total = total_is;
+    says = said_is gives conf edges (iterates_of conf edges) tells.counts has_base.last total_is;
+    least = least_is;
+    radii = radii_are;
   }
 
 pub forms_end_as_base : FormsEndAsBase
-forms_end_as_base gives children conf limits mines edges good tells = ends_as_base gives children conf limits mines edges good tells
+forms_end_as_base gives children conf limits mines edges good tells = record {
+  counts = counts_same gives children conf limits mines edges good tells;
+  last = last_same gives children conf limits mines edges good tells;
+  result = result_same gives children conf limits mines edges good tells;
+  ends = ends_with gives children conf limits mines edges good tells;
+}

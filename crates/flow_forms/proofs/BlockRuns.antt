@@ -161,7 +161,7 @@ block_ends_as_base gives children conf run edges good = forms_end_as_base gives 
 
 pub block_keeps_iterates : BlockKeepsIterates
 block_keeps_iterates gives children conf run edges good =
-    forms_keep_vectors gives children conf run.limits run.mines edges good (tells_iterates gives children conf run edges good) (block_layout_of conf edges) (λ k. (block_flow gives children conf run edges good k).vector)
+    forms_keep_vectors gives conf run.limits edges (iterates_of conf edges) (block_ends_as_base gives children conf run edges good).ends (block_layout_of conf edges) (λ k. (block_flow gives children conf run edges good k).vector)
 
 pub file_block_flow : FileBlockFlow
 file_block_flow gives children conf run bytes k = block_flow gives children conf run (edges_of conf.nodes bytes).edges (file_edges_are_countable conf.nodes bytes) k

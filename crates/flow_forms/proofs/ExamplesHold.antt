@@ -87,7 +87,7 @@ four_is_last = record {
 pub flow_by_example : BlockFlowByExample
 flow_by_example =
     let two = block_flow bundled bundled_follow path_conf is_block_run path_edges edges_countable 2 in
-    let has = (block_ends_as_base bundled bundled_follow path_conf is_block_run path_edges edges_countable).result in
+    let has = (block_ends_as_base bundled bundled_follow path_conf is_block_run path_edges edges_countable).ends in
     let last : has.last ≡ 4 = last_is_one path_conf (changed_of path_conf path_edges) has.last 4 has.first four_is_last in
     (two.vector ∙ blocks_by_example.2, two.count, has.is_last ∙ ap Some last, has.result ∙ ap (result_of path_conf path_edges) last ∙ path_result, has.total ∙ ap (λ (k : ℕ). Some (total_after path_conf path_edges k)) last)
 
@@ -114,6 +114,6 @@ is_rank_run = record {
 
 pub ranks_by_example : BlockRanksByExample
 ranks_by_example =
-    let has = (block_ends_as_base bundled bundled_follow loop_conf is_rank_run loop_edges loop_countable).result in
+    let has = (block_ends_as_base bundled bundled_follow loop_conf is_rank_run loop_edges loop_countable).ends in
     let last : has.last ≡ 1 = has.first.ends in
     has.result ∙ ap (result_of loop_conf loop_edges) last

@@ -3,8 +3,6 @@ use Rattle.std.proofs.Common.{◌≡◌, refl, sym, ap, ◌∙◌, subst, ℕ, z
 use Rattle.std.specs.Prelude.{IsSome, IfSome, unwrap_or}
 use Rattle.std.proofs.lemmas.Bool.{cases_lt, false≢true}
 use Rattle.graph.specs.declared.edges.Edge.{Edge}
-use Rattle.graph.specs.Entries.{hadi_entries}
-use Rattle.hadi.specs.Radii.{IsRadius}
 use Rattle.conf.specs.declared.reading.Conf.{Conf}
 use Rattle.conf.specs.Limits.{IsWithinLimits}
 use Rattle.dir_disk.specs.State.{Content, Image}
@@ -16,12 +14,10 @@ use Rattle.mining.specs.Kept.{Has, Kept}
 use Rattle.mining.specs.Places.{folder_of, is_sealed, rank_of}
 use Rattle.mining.proofs.LastLemmas.{most_small}
 use Rattle.flow_core.specs.Following.{Giving}
+use Rattle.flow_base.specs.Layouts.{Sequence, result_parts}
 use Rattle.flow.specs.Held.{IsWholeUpTo}
-use Rattle.flow.specs.Iterates.{result_of}
-use Rattle.flow.specs.Laws.{HasResult}
-use Rattle.flow_forms.specs.AsBase.{EndsAsBase}
+use Rattle.flow_forms.specs.Ends.{EndsWith}
 use Rattle.flow_forms.specs.Held.{HoldsAll, HoldsVectors, FormsKeepVectors}
-use Rattle.flow_forms.proofs.AsBase.{forms_end_as_base}
 
 -- ---- the newest iteration that an image has whole
 
@@ -118,52 +114,39 @@ module _ (gives : Giving) (conf : Conf) (edges : List Edge) (last : ℕ) (is_las
 
 -- ---- what they hold
 
-module _ (gives : Giving) (conf : Conf) (limits : IsWithinLimits conf) (edges : List Edge) (ends : EndsAsBase gives conf edges)
+module _ (gives : Giving) (conf : Conf) (limits : IsWithinLimits conf) (edges : List Edge) (s : Sequence) (ends : EndsWith gives conf edges s)
     (vector : ℕ → List (List ℕ)) (vectors : (k : ℕ) → flow (mining_of gives conf edges) (Vector k) ≡ vector k) (image : Image) (kept : Kept (mining_of gives conf edges) image) where
-  abbrev has : HasResult gives conf edges
-  has = ends.result
-
-  last_small : has.last < 10 ^ 10
-  last_small = let soon = has.soon in let small = most_small conf limits in omega (arith, soon, small)
+  last_small : ends.last < 10 ^ 10
+  last_small = let soon = ends.soon in let small = most_small conf limits in omega (arith, soon, small)
 
   vector_held : (k : ℕ) → k < 10 ^ 10 → HasOutputIfWhole (folder_of (Vector k)) (vector k) image
   vector_held k few =
       subst (λ (parts : List (List ℕ)). HasOutputIfWhole (folder_of (Vector k)) parts image) (vectors k) (kept.contents (Vector k) few (λ same. false≢true (ap is_sealed same)))
 
-  result_held : HasOutputIfWhole (folder_of Results) (result_of conf edges has.last) image
+  result_held : HasOutputIfWhole (folder_of Results) (result_parts s conf.nodes conf.reducers ends.last) image
   result_held =
-      subst (λ (parts : List (List ℕ)). HasOutputIfWhole (folder_of Results) parts image) has.result (kept.contents Results tt (λ same. false≢true (ap is_sealed same)))
+      subst (λ (parts : List (List ℕ)). HasOutputIfWhole (folder_of Results) parts image) ends.result (kept.contents Results tt (λ same. false≢true (ap is_sealed same)))
 
-  holds_vectors : HoldsVectors conf edges vector image
+  holds_vectors : HoldsVectors conf s vector image
   holds_vectors =
-      let front = newest has.last image in record {
+      let front = newest ends.last image in record {
         newest = front.found;
-        whole = whole_up_to gives conf edges has.last has.is_last last_small image kept front.found front.is;
-        last = has.last;
-        is_last = has.first;
-        few = newest_few has.last image front.found front.is;
+        whole = whole_up_to gives conf edges ends.last ends.is_last last_small image kept front.found front.is;
+        last = ends.last;
+        is_last = ends.first;
+        few = newest_few ends.last image front.found front.is;
         vectors = vector_held;
         result = result_held;
       }
 
-  holds_all : Has Results image → HoldsAll conf edges vector image
+  holds_all : Has Results image → HoldsAll conf s vector image
   holds_all whole = record {
-    last = has.last;
-    is_last = has.first;
-    soon = has.soon;
-    vectors = λ k low. let there = before_result gives conf edges has.last has.is_last last_small image kept k low whole in (there, vector_held k (omega (arith, low, last_small)) there);
+    last = ends.last;
+    is_last = ends.first;
+    vectors = λ k low. let there = before_result gives conf edges ends.last ends.is_last last_small image kept k low whole in (there, vector_held k (omega (arith, low, last_small)) there);
     whole = whole;
     result = result_held whole;
-    least = λ is labels are. sym has.result ∙ (ends.components is).least labels are;
-    radii = λ is radius are.
-        let end = ends.radii is in
-        let same : has.last ≡ end.last = ap (λ (found : Option ℕ). unwrap_or found 0) (sym has.is_last ∙ end.is_last) in
-        sym has.result ∙ end.radii radius (λ node low. subst (λ (l : ℕ). IsRadius conf.seed (hadi_entries conf.sym edges) l node (radius node)) same (are node low));
   }
 
 pub forms_keep_vectors : FormsKeepVectors
-forms_keep_vectors gives children conf limits mines edges good tells vector vectors =
-    let ends = forms_end_as_base gives children conf limits mines edges good tells in record {
-      iterates = holds_vectors gives conf limits edges ends vector vectors;
-      all = holds_all gives conf limits edges ends vector vectors;
-    }
+forms_keep_vectors gives conf limits edges s ends vector vectors = record { iterates = holds_vectors gives conf limits edges s ends vector vectors; all = holds_all gives conf limits edges s ends vector vectors }

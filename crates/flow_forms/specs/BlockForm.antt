@@ -50,7 +50,7 @@ abbrev pub BlockKeepsIterates : Type 0
 BlockKeepsIterates =
     (gives : Giving) → FollowsChildren gives → (conf : Conf) → IsBlockRun conf → (edges : List Edge)
     → AreCountable conf.nodes edges
-    → KeepsVectors gives conf edges (block_layout_of conf edges)
+    → KeepsVectors gives conf edges (iterates_of conf edges) (block_layout_of conf edges)
 
 -- ---- edges of a file
 

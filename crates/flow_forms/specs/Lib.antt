@@ -1,3 +1,4 @@
+pub mod Ends
 pub mod AsBase
 pub mod Held
 pub mod BlockForm
