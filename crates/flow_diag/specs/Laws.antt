@@ -1,17 +1,18 @@
 -- What the jobs of the diagonal form make, for any algorithm whose values can be sent as messages.
 use Rattle.std.specs.Prelude.{◌≡◌, ℕ, ◌≤◌, ◌^◌, List}
 use Rattle.graph.specs.declared.edges.Edge.{Edge}
-use Rattle.graph.specs.Algorithms.{hcc}
 use Rattle.graph.specs.Entries.{Entry, hcc_entries}
 use Rattle.gimv_core.specs.Algebras.{Algebra, EntriesFit, VectorFits}
 use Rattle.gimv_core.specs.Closings.{IsClosing}
 use Rattle.gimv_core.specs.Consequences.{first_nodes}
 use Rattle.gimv_core.specs.Laws.{IsLawful}
+use Rattle.hcc.specs.Components.{hcc_algebra, label_as_message}
 use Rattle.gimv_diag.specs.Diagonal.{diagonal_after}
 use Rattle.flow_core.specs.Following.{Giving}
 use Rattle.flow_core.specs.Jobs.{Cut}
 use Rattle.flow_base.specs.Laws.{IsCut}
 use Rattle.flow_base.specs.Layouts.{Sequence, sequence}
+use Rattle.flow_base.specs.Matrices.{one_number}
 use Rattle.flow_block.specs.BlockFolders.{HasBlocks}
 use Rattle.flow_block.specs.BlockLayouts.{block_layout}
 use Rattle.flow_block.specs.BlockRoles.{BlockWords}
@@ -42,8 +43,23 @@ ClosedIteratesFit Val Msg Weight =
     → (entries : List (Entry Weight)) → EntriesFit a (first_nodes n) entries
     → (k : ℕ) → VectorFits a (first_nodes n) (closed_iterate a.algorithm len entries k)
 
--- for components they are the labels after so many steps of closed labels
-abbrev pub ClosedLabels : Type 0
-ClosedLabels =
-    (len : ℕ) (edges : List Edge) (k : ℕ)
-    → closed_iterate hcc len (hcc_entries edges) k ≡ diagonal_after len edges k
+-- ---- components
+
+-- the labels after so many steps of closed labels
+abbrev pub diagonal_labels : ℕ → List Edge → Sequence
+diagonal_labels len edges = sequence hcc_algebra (diagonal_after len edges)
+
+-- for components these are what the folders hold
+abbrev pub DiagonalVectorsAreLabels : Type 0
+DiagonalVectorsAreLabels =
+    (gives : Giving) (len n : ℕ) → IsLength len → n ≤ 2 ^ 32
+    → (words : BlockWords) → FollowsDiagonalRoles gives hcc_algebra label_as_message len n words
+    → (cut : Cut) → IsCut cut
+    → (edges : List Edge) (blocks : List (List ℕ)) → HasBlocks hcc_algebra one_number len n (hcc_entries edges) blocks
+    → (folder : ℕ → List (List ℕ)) → AreMadeInBlocks gives words cut n (λ p. p) blocks folder
+    → (k : ℕ) → folder k ≡ block_layout (diagonal_labels len edges) len n cut.reducers k
+
+abbrev pub DiagonalLabelsFit : Type 0
+DiagonalLabelsFit =
+    (len n : ℕ) → n ≤ 2 ^ 32 → (edges : List Edge) → EntriesFit hcc_algebra (first_nodes n) (hcc_entries edges)
+    → (k : ℕ) → VectorFits hcc_algebra (first_nodes n) (diagonal_after len edges k)
