@@ -1,5 +1,5 @@
 -- A run whose vectors count what the iterates change ends as that of the base form does.
-use Rattle.std.proofs.Common.{◌≡◌, refl, sym, ap, ◌∙◌, subst, true, ◌&&◌, eqb, leb, ℕ, ◌+◌, ◌-◌, ◌<◌, ◌≤◌, List, ◌++◌, Option, Some, None}
+use Rattle.std.proofs.Common.{◌≡◌, refl, sym, ap, ◌∙◌, subst, true, ◌&&◌, eqb, leb, ℕ, ◌<◌, ◌≤◌, List, Option, Some}
 use Rattle.std.specs.Prelude.{◌||◌, slice_index, unwrap_or}
 use Rattle.std.specs.List.{find, range_with_len}
 use Rattle.graph.specs.declared.edges.Edge.{Edge}

@@ -1,5 +1,5 @@
 -- The block form of the three commands.
-use Rattle.std.proofs.Common.{◌≡◌, refl, sym, ap, ◌∙◌, subst, true, ℕ, ◌-◌, ◌≤◌, ◌^◌, List, [], ◌∷◌, Some, arith}
+use Rattle.std.proofs.Common.{◌≡◌, refl, sym, ap, ◌∙◌, subst, true, ℕ, ◌-◌, ◌≤◌, ◌^◌, List, [], ◌∷◌, Some, arith, codes}
 use Rattle.std.specs.Prelude.{unwrap_or}
 use Rattle.std.proofs.lemmas.Bool.{false≢true, ltb-true}
 use Rattle.graph.specs.declared.edges.Edge.{Edge}
@@ -17,10 +17,11 @@ use Rattle.hadi.specs.Lawful.{hadi_is_lawful}
 use Rattle.edge_text.specs.Edges.{edges_of, text_of}
 use Rattle.conf.specs.declared.commands.Command.{Command}
 use Rattle.conf.specs.declared.commands.Command.TheVariants.{Plain, Hcc, Hadi, PageRank}
+use Rattle.conf.specs.declared.commands.Form.TheVariants.{Block}
 use Rattle.conf.specs.declared.reading.Conf.{Conf}
 use Rattle.conf.specs.Commands.{is_mining}
 use Rattle.mining.specs.declared.place.Place.TheVariants.{Blocks, Matrix, Results, Vector as VectorOf}
-use Rattle.mining.specs.Table.{matrix_map, matrix_reduce}
+use Rattle.mining.specs.Table.{matrix_map, matrix_reduce, over_blocks}
 use Rattle.mining.specs.Flow.{mining_of, flow, count_of, changes_in, last_of}
 use Rattle.mining.proofs.Flows.{vector_flow}
 use Rattle.flow_core.specs.Following.{Giving}
@@ -46,7 +47,7 @@ use Rattle.flow_forms.specs.BlockForm.{IsBlockRun, block_layout_of, BlockEndsAsB
 use Rattle.flow_forms.proofs.AsBase.{forms_end_as_base}
 use Rattle.flow_forms.proofs.BlockCounts.{count_of_blocks}
 use Rattle.flow_forms.proofs.Held.{forms_keep_vectors}
-use Rattle.flow_forms.proofs.Table.{blocks_made, matrix_made, result_made, vectors_made}
+use Rattle.flow_forms.proofs.Table.{block_goes, blocks_made, matrix_made, result_made, vectors_made}
 use Rattle.flow_forms.proofs.WordsBack.{block_words, follows_hadi, follows_hcc, follows_page_rank}
 
 -- what the flow has, of a sequence of vectors
@@ -92,12 +93,12 @@ module _ (gives : Giving) (children : FollowsChildren gives) (conf : Conf) (run 
 
     blocks : HasBlocks a number conf.block conf.nodes entries (flow (mining_of gives conf edges) Blocks)
     blocks =
-        subst (HasBlocks a number conf.block conf.nodes entries) (sym (blocks_made gives conf run.form edges))
+        subst (HasBlocks a number conf.block conf.nodes entries) (sym (blocks_made gives conf Block run.form (over_blocks conf (codes "block1")) (block_goes conf) edges))
         (blocks_hold_entries gives conf.block some_length (block_words conf).cut (block_words conf).blocks follows.cut follows.blocks (cut_of conf) is_cut a number conf.nodes few entries (flow (mining_of gives conf edges) Matrix) matrix)
 
     vectors_are : (k : ℕ) → folder k ≡ block_layout s conf.block conf.nodes conf.reducers k
     vectors_are =
-        layouts_are gives a laws conf.block conf.nodes some_length short few (block_words conf) follows (cut_of conf) is_cut.some_bytes is_cut.some_reducers number entries (flow (mining_of gives conf edges) Blocks) blocks (λ p. p) (λ p low. low) folder (vectors_made gives conf run.form edges)
+        layouts_are gives a laws conf.block conf.nodes some_length short few (block_words conf) follows (cut_of conf) is_cut.some_bytes is_cut.some_reducers number entries (flow (mining_of gives conf edges) Blocks) blocks (λ p. p) (λ p low. low) folder (vectors_made gives conf Block run.form (over_blocks conf (codes "block1")) (block_goes conf) edges)
 
     fit : (k : ℕ) → VectorFits a (first_nodes conf.nodes) (vectors k)
     fit =
@@ -108,7 +109,7 @@ module _ (gives : Giving) (children : FollowsChildren gives) (conf : Conf) (run 
       vector = vectors_are;
       count = λ k. ap changes_in (sym (vector_flow (mining_of gives conf edges) k) ∙ vectors_are k)
           ∙ count_of_blocks gives a laws conf.block conf.nodes some_length short few (block_words conf) follows (cut_of conf) is_cut.some_bytes is_cut.some_reducers some_text vectors fit k;
-      result = result_made gives conf run.form edges
+      result = result_made gives conf Block run.form (over_blocks conf (codes "block1")) (block_goes conf) edges
           ∙ ap (job_by gives (cut_of conf) (block_words conf).unblock (block_words conf).copy) (vectors_are last)
           ∙ results_are gives a laws conf.block conf.nodes some_length short few (block_words conf) follows (cut_of conf) is_cut.some_bytes is_cut.some_reducers vectors fit last;
     }
@@ -116,7 +117,7 @@ module _ (gives : Giving) (children : FollowsChildren gives) (conf : Conf) (run 
   -- the matrix of a command
   matrix_by : (command : Command) → conf.command ≡ command → flow (mining_of gives conf edges) Matrix ≡ job_by gives (cut_of conf) (with_program (matrix_map command conf.sym)) (with_program (matrix_reduce command)) (text_of edges ∷ [])
   matrix_by command is =
-      matrix_made gives conf run.form edges
+      matrix_made gives conf Block run.form (over_blocks conf (codes "block1")) (block_goes conf) edges
       ∙ ap (λ (c : Command). job_by gives (cut_of conf) (with_program (matrix_map c conf.sym)) (with_program (matrix_reduce c)) (text_of edges ∷ [])) is
 
   hcc_sequence : conf.command ≡ Hcc → HasBlockSequence gives conf edges (iterates_by Hcc conf edges)

@@ -1,6 +1,6 @@
 -- What is kept holds the vectors of a form, and the result of the last one.
-use Rattle.std.proofs.Common.{◌≡◌, refl, sym, ap, ◌∙◌, subst, ℕ, zero, suc, ◌^◌, ◌<◌, ◌≤◌, ◌⊎◌, List, Option, Some, None, inl, inr, arith}
-use Rattle.std.specs.Prelude.{IsSome, IfSome, unwrap_or}
+use Rattle.std.proofs.Common.{◌≡◌, refl, sym, ap, subst, ℕ, zero, suc, ◌^◌, ◌<◌, ◌≤◌, ◌⊎◌, List, Option, Some, None, inl, inr, arith}
+use Rattle.std.specs.Prelude.{IsSome, IfSome}
 use Rattle.std.proofs.lemmas.Bool.{cases_lt, false≢true}
 use Rattle.graph.specs.declared.edges.Edge.{Edge}
 use Rattle.conf.specs.declared.reading.Conf.{Conf}

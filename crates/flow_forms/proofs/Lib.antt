@@ -5,4 +5,5 @@ pub mod Says
 pub mod AsBase
 pub mod Held
 pub mod BlockRuns
+pub mod DiagonalRuns
 pub mod ExamplesHold

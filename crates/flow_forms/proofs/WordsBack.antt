@@ -4,7 +4,8 @@ use Rattle.std.proofs.lemmas.Bool.{cond-true, le-leb, and_from}
 use Rattle.peg_text.proofs.DecimalLemmas.{decimals_read_back}
 use Rattle.words.specs.Words.{within}
 use Rattle.gimv_block.specs.BlockRules.{blocks_rule, cut_rule, group_rule}
-use Rattle.hcc.specs.Components.{hcc_algebra}
+use Rattle.gimv_diag.specs.DiagonalRules.{diag1_rule}
+use Rattle.hcc.specs.Components.{hcc_algebra, label_as_message}
 use Rattle.pagerank.specs.Ranks.{page_rank_algebra}
 use Rattle.hadi.specs.Hadi.{hadi_algebra}
 use Rattle.child.specs.declared.kinds.Algorithm.{Algorithm}
@@ -94,6 +95,13 @@ module _ (gives : Giving) (children : FollowsChildren gives) (conf : Conf) (some
         children (with_program (over_blocks conf word)) (rule_over_blocks role algorithm conf.nodes conf.block)
         (ap (λ (c : Command). rule_of (word ∷ algorithm_word conf c ∷ decimal conf.nodes ∷ decimal conf.block ∷ [])) is
         ∙ role_rule conf.nodes conf.block some_nodes few_nodes some few role word role_is algorithm (algorithm_word conf command) algorithm_is)
+
+  -- the role that closes labels
+  pub follows_diag1 : Follows gives (with_program (codes "diag1" ∷ decimal conf.nodes ∷ decimal conf.block ∷ [])) (diag1_rule hcc_algebra label_as_message conf.block conf.nodes)
+  follows_diag1 =
+      children (with_program (codes "diag1" ∷ decimal conf.nodes ∷ decimal conf.block ∷ [])) (diag1_rule hcc_algebra label_as_message conf.block conf.nodes)
+      (ap (λ found. option_map rule_of_kind (option_and_then (λ n. option_map (λ b. Asked.Diagonal n b) (block_length_of (decimal conf.block))) found)) (node_count_back conf.nodes some_nodes few_nodes)
+      ∙ ap (λ found. option_map rule_of_kind (option_map (λ b. Asked.Diagonal conf.nodes b) found)) (length_back conf.block some few))
 
   pub follows_hcc : conf.command ≡ OfHcc → FollowsBlockRoles gives hcc_algebra conf.block conf.nodes (block_words conf)
   follows_hcc is = record {

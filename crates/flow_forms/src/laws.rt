@@ -1,8 +1,12 @@
-//! Each law is the contract of a function that does nothing.
+//! Each law is the contract of a function that does nothing, or that calls others for their laws.
 ghost use Rattle.flow_forms.specs.AsBase.{FormsEndAsBase};
 ghost use Rattle.flow_forms.specs.BlockForm.{BlockEndsAsBase, BlockFlow, BlockKeepsIterates, FileBlockEndsAsBase, FileBlockFlow};
+ghost use Rattle.flow_forms.specs.DiagonalForm.{DiagonalEndsAsBase, DiagonalFlow, DiagonalKeepsLabels, FileDiagonalEndsAsBase, FileDiagonalFlow};
 ghost use Rattle.flow_forms.specs.Examples.{BlockFlowByExample, BlockRanksByExample, BlocksByExample};
 ghost use Rattle.flow_forms.specs.Held.{FormsKeepVectors};
+
+use flow_diag::laws::diagonal_vectors_are_labels;
+use gimv_diag::laws::diagonal_ends_at_least;
 
 /// Where the vectors of a form count what the iterates change, and its result is read from the last of them,
 /// its run ends as that of the base form does: with the bytes of its result, and with its lines.
@@ -33,6 +37,32 @@ pub fn block_ends_as_base()
 pub fn block_keeps_iterates()
     ensures { BlockKeepsIterates }
 {}
+
+/// Where the children are the bundled ones, each vector of the diagonal form is so many steps of closed labels,
+/// block by block, and its lines count what the last of them changed.
+pub fn diagonal_flow()
+    ensures edges { DiagonalFlow }
+    ensures files { FileDiagonalFlow }
+{
+    diagonal_vectors_are_labels();
+}
+
+/// A run of the diagonal form ends at the least labels, with the bytes of the base form's result.
+pub fn diagonal_ends_as_base()
+    ensures edges { DiagonalEndsAsBase }
+    ensures files { FileDiagonalEndsAsBase }
+{
+    diagonal_vectors_are_labels();
+    diagonal_ends_at_least();
+}
+
+/// Each image that is kept of such a run holds whole iterations, and the result of the last one.
+pub fn diagonal_keeps_labels()
+    ensures { DiagonalKeepsLabels }
+{
+    diagonal_vectors_are_labels();
+    diagonal_ends_at_least();
+}
 
 /// The folders of small graphs in blocks.
 pub fn blocks_by_example()
