@@ -3,13 +3,14 @@ use Rattle.std.specs.Prelude.{◌≡◌, decimal, true, List, [], ◌∷◌, cod
 use Rattle.graph.specs.declared.edges.Edge.{Edge}
 use Rattle.graph.specs.Examples.{from_to}
 use Rattle.conf.specs.declared.commands.Command.TheVariants.{Hcc, PageRank}
-use Rattle.conf.specs.declared.commands.Form.TheVariants.{Block}
+use Rattle.conf.specs.declared.commands.Form.TheVariants.{Block, Diagonal}
 use Rattle.conf.specs.declared.reading.Conf.{Conf}
 use Rattle.mining.specs.declared.place.Place.TheVariants.{Vector, Results}
 use Rattle.mining.specs.Flow.{Mining, mining_of, count_of, flow, last_of, total_in}
 use Rattle.flow_core.specs.Parts.{parts_with}
 use Rattle.flow_base.specs.Layouts.{Sequence}
 use Rattle.flow_block.specs.BlockLayouts.{block_layout}
+use Rattle.flow_diag.specs.Laws.{diagonal_labels}
 use Rattle.flow.specs.Children.{bundled}
 use Rattle.flow.specs.Iterates.{iterates_by}
 
@@ -61,6 +62,30 @@ BlockFlowByExample =
     × (last_of path ≡ Some 4)
     × (flow path Results ≡ codes "0\t0\n1\t0\n2\t0\n3\t0\n" ∷ [])
     × (total_in Hcc (flow path Results) ≡ Some 1)
+
+-- ---- closed labels
+
+-- the same path in the diagonal form
+abbrev pub closed_conf : Conf
+closed_conf = record path_conf { form = Diagonal }
+
+-- its labels in blocks of two nodes, where each iteration closes them within the blocks first, and in one block
+abbrev pub ClosedByExample : Type 0
+ClosedByExample =
+    (block_layout (diagonal_labels 2 path_edges) 2 4 1 0 ≡ codes "0\tV 2 0,1\n1\tV 2 2,3\n" ∷ [])
+    × (block_layout (diagonal_labels 2 path_edges) 2 4 1 1 ≡ codes "0\tV 1 0,0\n1\tV 2 0,2\n" ∷ [])
+    × (block_layout (diagonal_labels 2 path_edges) 2 4 1 2 ≡ codes "0\tV 0 0,0\n1\tV 1 0,0\n" ∷ [])
+    × (block_layout (diagonal_labels 2 path_edges) 2 4 1 3 ≡ codes "0\tV 0 0,0\n1\tV 0 0,0\n" ∷ [])
+    × (block_layout (diagonal_labels 4 path_edges) 4 4 1 1 ≡ codes "0\tV 3 0,0,0,0\n" ∷ [])
+
+-- what the jobs leave: an iteration and its count, the last iteration, which comes before that of plain steps, and
+-- the result
+abbrev pub DiagonalFlowByExample : Type 0
+DiagonalFlowByExample =
+    (flow (mining_of bundled closed_conf path_edges) (Vector 1) ≡ codes "0\tV 1 0,0\n1\tV 2 0,2\n" ∷ [])
+    × (count_of (mining_of bundled closed_conf path_edges) 1 ≡ Some 3)
+    × (last_of (mining_of bundled closed_conf path_edges) ≡ Some 3)
+    × (flow (mining_of bundled closed_conf path_edges) Results ≡ codes "0\t0\n1\t0\n2\t0\n3\t0\n" ∷ [])
 
 -- ---- ranks
 

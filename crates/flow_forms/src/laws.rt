@@ -2,7 +2,7 @@
 ghost use Rattle.flow_forms.specs.AsBase.{FormsEndAsBase};
 ghost use Rattle.flow_forms.specs.BlockForm.{BlockEndsAsBase, BlockFlow, BlockKeepsIterates, FileBlockEndsAsBase, FileBlockFlow};
 ghost use Rattle.flow_forms.specs.DiagonalForm.{DiagonalEndsAsBase, DiagonalFlow, DiagonalKeepsLabels, FileDiagonalEndsAsBase, FileDiagonalFlow};
-ghost use Rattle.flow_forms.specs.Examples.{BlockFlowByExample, BlockRanksByExample, BlocksByExample};
+ghost use Rattle.flow_forms.specs.Examples.{BlockFlowByExample, BlockRanksByExample, BlocksByExample, ClosedByExample, DiagonalFlowByExample};
 ghost use Rattle.flow_forms.specs.Held.{FormsKeepVectors};
 
 use flow_diag::laws::diagonal_vectors_are_labels;
@@ -70,3 +70,12 @@ pub fn blocks_by_example()
     ensures flow { BlockFlowByExample }
     ensures ranks { BlockRanksByExample }
 {}
+
+/// The folders of a small graph in the diagonal form.
+pub fn diagonal_by_example()
+    ensures layouts { ClosedByExample }
+    ensures flow { DiagonalFlowByExample }
+{
+    diagonal_flow();
+    diagonal_ends_as_base();
+}
