@@ -6,3 +6,4 @@ pub mod BlockJoins
 pub mod BlockMakes
 pub mod BlockFirsts
 pub mod BlockChain
+pub mod Placing

@@ -1,5 +1,6 @@
 //! Each law is the contract of a function that does nothing.
 ghost use Rattle.flow_block.specs.Laws.{BlockResultsAreNumbers, BlockVectorsAreIterates, BlocksHoldEntries};
+ghost use Rattle.flow_block.specs.Placing.{PlacedResultsAreNumbers};
 
 /// The folder of the blocks holds lines of items that the entries of the matrix are cut into.
 pub fn blocks_hold_entries<Val, Msg, Weight>()
@@ -12,4 +13,10 @@ pub fn blocks_hold_entries<Val, Msg, Weight>()
 pub fn block_vectors_are_iterates<Val, Msg, Weight>()
     ensures vectors { BlockVectorsAreIterates Val Msg Weight }
     ensures results { BlockResultsAreNumbers Val Msg Weight }
+{}
+
+/// Where nodes have places of their own, the numbers of places that are joined with the nodes there make the
+/// result of the base form as well.
+pub fn placed_results_are_numbers<Val, Msg, Weight>()
+    ensures { PlacedResultsAreNumbers Val Msg Weight }
 {}
