@@ -6,4 +6,5 @@ pub mod BlockJoins
 pub mod BlockMakes
 pub mod BlockFirsts
 pub mod BlockChain
+pub mod PlacedVectors
 pub mod Placing

@@ -1,5 +1,5 @@
 -- The numbers of places are joined with the nodes there.
-use Rattle.std.proofs.Common.{◌≡◌, refl, sym, ap, ◌∙◌, subst, Bool, true, eqb, ℕ, zero, suc, ◌+◌, ◌*◌, ◌<◌, ◌≤◌, ◌^◌, List, [], ◌∷◌, ◌++◌, map, filter, decimal, Option, Some, None, option_map, option_and_then, arith}
+use Rattle.std.proofs.Common.{◌≡◌, refl, sym, ap, ◌∙◌, subst, true, eqb, ℕ, zero, suc, ◌+◌, ◌*◌, ◌<◌, ◌≤◌, ◌^◌, List, [], ◌∷◌, ◌++◌, map, decimal, Option, Some, None, option_map, option_and_then, arith}
 use Rattle.std.specs.List.{All, flat_map, range_with_len}
 use Rattle.std.specs.List.Sorted.{IsPermutation}
 use Rattle.std.specs.Option.{option_or}
@@ -32,11 +32,9 @@ use Rattle.pairs.specs.Pairs.{Pair, IsPlain, pair_before, pairs_text, sorted_pai
 use Rattle.pairs.specs.Sorting.{in_order}
 use Rattle.partition.specs.Hash.{part_among}
 use Rattle.spill.specs.Runs.{of_part}
-use Rattle.list_laws.specs.Classes.{IsOnce}
 use Rattle.list_laws.proofs.Alls.{all_each}
-use Rattle.list_laws.proofs.Classes.{classes}
 use Rattle.list_laws.proofs.Filters.{filter_agree_on}
-use Rattle.list_laws.proofs.Images.{flat_map_agree, map_agree, map-flat_map, map-map}
+use Rattle.list_laws.proofs.Images.{map_agree, map-flat_map, map-map}
 use Rattle.list_laws.proofs.Permutations.{same_items}
 use Rattle.list_laws.proofs.Ranges.{all_below, once_in_range}
 use Rattle.flow_core.specs.Following.{Giving}
@@ -52,25 +50,15 @@ use Rattle.flow_core.proofs.Jobs.{copied, job_over, reduces_by_group, reduces_by
 use Rattle.flow_core.proofs.MapPhase.{Gives}
 use Rattle.flow_core.proofs.Nodes.{nodes_keyed}
 use Rattle.flow_core.proofs.Records.{pairs_text-map}
-use Rattle.flow_core.proofs.Renaming.{same_place}
 use Rattle.flow_base.specs.Layouts.{change_at, sequence}
 use Rattle.flow_base.proofs.RecordsBack.{numbered_plain}
 use Rattle.flow_base.proofs.Stages.{before_by_values, plain_from}
 use Rattle.flow_block.specs.BlockLayouts.{block_layout, places_text}
-use Rattle.flow_block.specs.Placing.{FollowsPlacing, PlacedResultsAreNumbers, PlacingWords, joined_by}
+use Rattle.flow_block.specs.Placing.{FollowsPlacing, PlacedResultsAreNumbers, PlacingWords, joined_by, vectors_at}
 use Rattle.flow_block.proofs.BlockChain.{changes_one, layout_is}
 use Rattle.flow_block.proofs.BlockFirsts.{turned}
 use Rattle.flow_block.proofs.BlockJoins.{heads_good, vector_pair}
-
--- nodes place by place are all nodes
-ids_permuted : (n : ℕ) (place id : ℕ → ℕ) → AreAtPlaces n place id → IsPermutation (range_with_len 0 n) (map id (range_with_len 0 n))
-ids_permuted n place id places =
-    let nodes = range_with_len 0 n in
-    let at : ℕ → ℕ → Bool = λ i p. eqb (place i) p in
-    let each : All (λ p. filter (λ i. at i p) nodes ≡ id p ∷ []) nodes =
-    all_below n (λ p. filter (λ i. at i p) nodes ≡ id p ∷ []) (λ p low. filter_agree_on (λ i. at i p) (λ i. eqb (id p) i) nodes (all_below n (λ i. at i p ≡ eqb (id p) i) (λ i other. same_place n place id places i p other low ∙ turned i (id p))) ∙ once_in_range (id p) 0 n (omega arith) (let inside = places.id_low p low in omega (arith, inside))) in
-    subst (λ zs. IsPermutation nodes zs) (flat_map_agree (λ p. filter (λ i. at i p) nodes) (λ p. id p ∷ []) nodes each ∙ flat_map_single id nodes)
-    (classes at nodes nodes (all_below n (λ i. IsOnce (at i) nodes) (λ i low. record { one = place i; is = let inside = places.place_low i low in once_in_range (place i) 0 n (omega arith) (omega (arith, inside)) })))
+use Rattle.flow_block.proofs.PlacedVectors.{ids_permuted}
 
 nothing_then : {A B : Type 0} (f : A → Option B) (found : Option A) → ((x : A) → f x ≡ None) → option_and_then f found ≡ None
 nothing_then f None none = refl
@@ -280,7 +268,8 @@ module _ {Val Msg Weight : Type 0} (gives : Giving) (a : Algebra Val Msg Weight)
         copied gives words.copy follows.copy cut some_bytes joined words.copy numbers (part_lines cut.reducers numbers) joined_holds (λ r. reduces_by_id gives words.copy cut.reducers r numbers follows.copy joined_holds.plain)
 
 pub placed_results_are_numbers : {Val Msg Weight : Type 0} → PlacedResultsAreNumbers Val Msg Weight
-placed_results_are_numbers gives a laws len n is_length few words follows cut is_cut place id places at_nodes at_places fit same k =
+placed_results_are_numbers gives a laws len n is_length few words follows cut is_cut place id places vectors fit k =
+    let over = vectors_at id vectors in
     result_is gives a laws len n is_length.some is_length.few few words follows cut is_cut.some_bytes is_cut.some_reducers place id places
-    (change_at a.algorithm at_places k) (changes_one a.algorithm at_places k) (at_nodes k) (at_places k) (fit k) (same k)
-    (block_layout (sequence a at_places) len n cut.reducers k) (layout_is a at_places len n cut.reducers k)
+    (change_at a.algorithm over k) (changes_one a.algorithm over k) (vectors k) (over k) (fit k) (λ p low. refl)
+    (block_layout (sequence a over) len n cut.reducers k) (layout_is a over len n cut.reducers k)

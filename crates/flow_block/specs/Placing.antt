@@ -1,6 +1,7 @@
--- Results that are read from values at places.
-use Rattle.std.specs.Prelude.{◌≡◌, ℕ, ◌<◌, ◌≤◌, ◌^◌, List, ◌∷◌}
-use Rattle.graph.specs.Steps.{Vector}
+-- Vectors over places, where nodes have places of their own, and results that are read from them.
+use Rattle.std.specs.Prelude.{◌≡◌, ℕ, ◌≤◌, ◌^◌, List, ◌∷◌, map, All}
+use Rattle.graph.specs.Entries.{Entry}
+use Rattle.graph.specs.Steps.{Vector, iterate}
 use Rattle.gimv_core.specs.Algebras.{Algebra, VectorFits}
 use Rattle.gimv_core.specs.Consequences.{first_nodes}
 use Rattle.gimv_core.specs.Laws.{IsLawful}
@@ -8,11 +9,41 @@ use Rattle.gimv_base.specs.BaseRules.{id_rule, place_rule}
 use Rattle.gimv_block.specs.Unplacing.{unplace_rule}
 use Rattle.flow_core.specs.Following.{Giving, Follows}
 use Rattle.flow_core.specs.Jobs.{Cut, job_by}
-use Rattle.flow_core.specs.Places.{AreAtPlaces}
+use Rattle.flow_core.specs.Places.{AreAtPlaces, IsInside, placed_entry}
 use Rattle.flow_base.specs.Laws.{IsCut}
-use Rattle.flow_base.specs.Layouts.{sequence, result_parts}
+use Rattle.flow_base.specs.Layouts.{changed_in, sequence, result_parts}
+use Rattle.flow_block.specs.BlockFolders.{HasBlocks}
 use Rattle.flow_block.specs.BlockLayouts.{block_layout, places_text}
-use Rattle.flow_block.specs.Laws.{IsLength}
+use Rattle.flow_block.specs.BlockRoles.{BlockWords, FollowsBlockRoles}
+use Rattle.flow_block.specs.Laws.{AreMadeInBlocks, IsLength}
+
+-- ---- vectors
+
+-- vectors place by place: each place has the value of the node there
+abbrev pub vectors_at : {Val : Type 0} → (ℕ → ℕ) → (ℕ → Vector Val) → ℕ → Vector Val
+vectors_at id vectors k p = vectors k (id p)
+
+-- folders over the blocks of the entries by places hold the iterates of the entries, place by place
+abbrev pub PlacedVectorsAreIterates : Type 0 → Type 0 → Type 0 → Type 0
+PlacedVectorsAreIterates Val Msg Weight =
+    (gives : Giving) (a : Algebra Val Msg Weight) → IsLawful a → (len n : ℕ) → IsLength len → n ≤ 2 ^ 32
+    → (words : BlockWords) → FollowsBlockRoles gives a len n words → (cut : Cut) → IsCut cut
+    → (place id : ℕ → ℕ) → AreAtPlaces n place id
+    → (number : Weight → ℕ) (entries : List (Entry Weight)) → All (IsInside n) entries
+    → (blocks : List (List ℕ)) → HasBlocks a number len n (map (placed_entry place) entries) blocks
+    → (folder : ℕ → List (List ℕ)) → AreMadeInBlocks gives words cut n id blocks folder
+    → (k : ℕ)
+    → folder k
+    ≡ block_layout (sequence a (vectors_at id (iterate a.algorithm entries))) len n cut.reducers k
+
+-- and as many places change as nodes
+abbrev pub PlacedChangesAreChanges : Type 0 → Type 0 → Type 0 → Type 0
+PlacedChangesAreChanges Val Msg Weight =
+    (a : Algebra Val Msg Weight) (n : ℕ) (place id : ℕ → ℕ) → AreAtPlaces n place id
+    → (vectors : ℕ → Vector Val) (k : ℕ)
+    → changed_in (sequence a (vectors_at id vectors)) n k ≡ changed_in (sequence a vectors) n k
+
+-- ---- results
 
 -- the words of the roles that join the numbers of places with the nodes there
 pub record PlacingWords : Type 0 where
@@ -36,9 +67,8 @@ PlacedResultsAreNumbers Val Msg Weight =
     (gives : Giving) (a : Algebra Val Msg Weight) → IsLawful a → (len n : ℕ) → IsLength len → n ≤ 2 ^ 32
     → (words : PlacingWords) → FollowsPlacing gives a len n words → (cut : Cut) → IsCut cut
     → (place id : ℕ → ℕ) → AreAtPlaces n place id
-    → (at_nodes at_places : ℕ → Vector Val) → ((k : ℕ) → VectorFits a (first_nodes n) (at_nodes k))
-    → ((k p : ℕ) → p < n → at_places k p ≡ at_nodes k (id p))
+    → (vectors : ℕ → Vector Val) → ((k : ℕ) → VectorFits a (first_nodes n) (vectors k))
     → (k : ℕ)
     → job_by gives cut words.copy words.copy
-    (joined_by gives cut words id n (block_layout (sequence a at_places) len n cut.reducers k))
-    ≡ result_parts (sequence a at_nodes) n cut.reducers k
+    (joined_by gives cut words id n (block_layout (sequence a (vectors_at id vectors)) len n cut.reducers k))
+    ≡ result_parts (sequence a vectors) n cut.reducers k

@@ -1,10 +1,17 @@
 -- The folders of the path in blocks compute.
-use Rattle.std.proofs.Common.{◌≡◌, ◌≢◌, ◌∙◌, refl, sym, ap, ℕ, ◌+◌, ◌<◌, [], ◌∷◌, Some, codes, decimal, inl, inr, arith}
+use Rattle.std.proofs.Common.{◌≡◌, ◌≢◌, ◌∙◌, refl, sym, ap, ℕ, ◌+◌, ◌<◌, [], ◌∷◌, Some, codes, decimal, inl, inr, arith, true, ◌≤◌}
 use Rattle.std.proofs.lemmas.Bool.{cases_eq}
 use Rattle.std.proofs.lemmas.Fmt.{decimal_digit}
 use Rattle.std.proofs.lemmas.List.Elements.{All-nil, All-cons}
 use Rattle.graph.specs.declared.edges.Edge.{Edge}
 use Rattle.graph.specs.Examples.{from_to}
+use Rattle.conf.specs.declared.commands.Command.{Command}
+use Rattle.conf.specs.declared.commands.Command.TheVariants.{Hcc, PageRank, Plain}
+use Rattle.conf.specs.declared.commands.Form.{Form}
+use Rattle.conf.specs.declared.commands.Form.TheVariants.{Block, Diagonal}
+use Rattle.conf.specs.Commands.{has_form}
+use Rattle.conf.specs.Limits.{IsWithinLimits}
+use Rattle.conf.specs.Rules.{most_nodes_at_once}
 use Rattle.flow_base.specs.Layouts.{changed_in, result_parts}
 use Rattle.flow.specs.Children.{bundled}
 use Rattle.flow.specs.Iterates.{IsLast, changed_of, result_of, total_after}
@@ -48,26 +55,26 @@ loop_countable =
       few = omega arith;
     }
 
-is_block_run : IsBlockRun path_conf
-is_block_run = record {
-  limits = record {
-    nodes = (omega arith, omega arith);
-    reducers = (omega arith, omega arith);
-    split = (omega arith, omega arith);
-    slots = (omega arith, omega arith);
-    spill = (omega arith, omega arith);
-    block = (omega arith, omega arith);
-    iters = (omega arith, omega arith);
-    hops = (omega arith, omega arith);
-    seed = (omega arith, omega arith);
-    generated = tt;
-    form = λ other. refl;
-    plain = λ is. cc;
-    clustered = λ is. cc;
-  };
-  mines = refl;
-  form = refl;
+-- another command, form and number of nodes are within the limits as well
+limits_of : (command : Command) (form : Form) (nodes : ℕ) → 1 ≤ nodes → nodes ≤ 4 → has_form command form ≡ true → (command ≡ Plain → nodes ≤ most_nodes_at_once) → IsWithinLimits (record path_conf { command = command; form = form; nodes = nodes })
+limits_of command form nodes some few has plain = record {
+  nodes = (some, omega (arith, few));
+  reducers = (omega arith, omega arith);
+  split = (omega arith, omega arith);
+  slots = (omega arith, omega arith);
+  spill = (omega arith, omega arith);
+  block = (omega arith, omega arith);
+  iters = (omega arith, omega arith);
+  hops = (omega arith, omega arith);
+  seed = (omega arith, omega arith);
+  generated = tt;
+  form = λ other. has;
+  plain = plain;
+  clustered = λ is. omega (arith, few);
 }
+
+is_block_run : IsBlockRun path_conf
+is_block_run = record { limits = limits_of Hcc Block 4 (omega arith) (omega arith) refl (λ is. cc); mines = refl; form = refl }
 
 apart : (m n : ℕ) → m ≢ n → (j : ℕ) → changed_of path_conf path_edges j ≡ m → changed_of path_conf path_edges j ≢ n
 apart m n other j is none = other (sym is ∙ none)
@@ -111,24 +118,7 @@ closed_result =
     rw (d0, d1, d2, d3) refl
 
 is_closed_run : IsDiagonalRun closed_conf
-is_closed_run = record {
-  limits = record {
-    nodes = (omega arith, omega arith);
-    reducers = (omega arith, omega arith);
-    split = (omega arith, omega arith);
-    slots = (omega arith, omega arith);
-    spill = (omega arith, omega arith);
-    block = (omega arith, omega arith);
-    iters = (omega arith, omega arith);
-    hops = (omega arith, omega arith);
-    seed = (omega arith, omega arith);
-    generated = tt;
-    form = λ other. refl;
-    plain = λ is. cc;
-    clustered = λ is. cc;
-  };
-  form = refl;
-}
+is_closed_run = record { limits = limits_of Hcc Diagonal 4 (omega arith) (omega arith) refl (λ is. cc); form = refl }
 
 abbrev closed_changes : ℕ → ℕ
 closed_changes k = changed_in (labels_of closed_conf path_edges) 4 k
@@ -153,25 +143,7 @@ diagonal_by_example flows ends =
 -- ---- ranks
 
 is_rank_run : IsBlockRun loop_conf
-is_rank_run = record {
-  limits = record {
-    nodes = (omega arith, omega arith);
-    reducers = (omega arith, omega arith);
-    split = (omega arith, omega arith);
-    slots = (omega arith, omega arith);
-    spill = (omega arith, omega arith);
-    block = (omega arith, omega arith);
-    iters = (omega arith, omega arith);
-    hops = (omega arith, omega arith);
-    seed = (omega arith, omega arith);
-    generated = tt;
-    form = λ other. refl;
-    plain = λ is. cc;
-    clustered = λ is. cc;
-  };
-  mines = refl;
-  form = refl;
-}
+is_rank_run = record { limits = limits_of PageRank Block 2 (omega arith) (omega arith) refl (λ is. cc); mines = refl; form = refl }
 
 pub ranks_by_example : BlockRanksByExample
 ranks_by_example =
