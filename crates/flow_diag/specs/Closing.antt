@@ -7,11 +7,12 @@ use Rattle.gimv_block.specs.Blocks.{block_of}
 
 -- the entries whose row and column are in one block
 abbrev pub inner_entries : {Weight : Type 0} → ℕ → List (Entry Weight) → List (Entry Weight)
-inner_entries {Weight} len entries = filter (λ (e : Entry Weight). block_of len e.row == block_of len e.column) entries
+inner_entries {Weight} len entries =
+    filter (λ (e : Entry Weight). block_of len e.row == block_of len e.column) entries
 
 -- values closed in each block: as many steps along these as a block has nodes
-abbrev pub closed : {Val Msg Weight : Type 0} → Algorithm Val Msg Weight → ℕ → List (Entry Weight) → Vector Val
-    → Vector Val
+abbrev pub closed : {Val Msg Weight : Type 0} → Algorithm Val Msg Weight → ℕ → List (Entry Weight)
+    → Vector Val → Vector Val
 closed a len entries v = rounds a (inner_entries len entries) len v
 
 -- the vector after so many steps of closed values

@@ -55,11 +55,13 @@ DiagonalVectorsAreLabels =
     (gives : Giving) (len n : ℕ) → IsLength len → n ≤ 2 ^ 32
     → (words : BlockWords) → FollowsDiagonalRoles gives hcc_algebra label_as_message len n words
     → (cut : Cut) → IsCut cut
-    → (edges : List Edge) (blocks : List (List ℕ)) → HasBlocks hcc_algebra one_number len n (hcc_entries edges) blocks
+    → (edges : List Edge) (blocks : List (List ℕ))
+    → HasBlocks hcc_algebra one_number len n (hcc_entries edges) blocks
     → (folder : ℕ → List (List ℕ)) → AreMadeInBlocks gives words cut n (λ p. p) blocks folder
     → (k : ℕ) → folder k ≡ block_layout (diagonal_labels len edges) len n cut.reducers k
 
 abbrev pub DiagonalLabelsFit : Type 0
 DiagonalLabelsFit =
-    (len n : ℕ) → n ≤ 2 ^ 32 → (edges : List Edge) → EntriesFit hcc_algebra (first_nodes n) (hcc_entries edges)
+    (len n : ℕ) → n ≤ 2 ^ 32 → (edges : List Edge)
+    → EntriesFit hcc_algebra (first_nodes n) (hcc_entries edges)
     → (k : ℕ) → VectorFits hcc_algebra (first_nodes n) (diagonal_after len edges k)

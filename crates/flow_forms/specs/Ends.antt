@@ -28,7 +28,8 @@ done_of conf s last =
 
 -- what is said after vector k, where this is the last one
 abbrev pub said_after : Conf → Sequence → ℕ → ℕ → List ℕ
-said_after conf s k last = flat_map (line_of conf s) (range_with_len (k + 1) (last - k)) ++ done_of conf s last
+said_after conf s k last =
+    flat_map (line_of conf s) (range_with_len (k + 1) (last - k)) ++ done_of conf s last
 
 -- all that a run says that goes on after vector k, or that begins with the first one
 abbrev pub said_of : Conf → Sequence → Option ℕ → ℕ → List ℕ

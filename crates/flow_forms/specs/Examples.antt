@@ -39,8 +39,8 @@ path_conf =
 abbrev pub path_labels : Sequence
 path_labels = iterates_by Hcc path_conf path_edges
 
--- its vectors in blocks of two nodes; and one of them in two parts, in blocks of three nodes, of which the last
--- is shorter
+-- its vectors in blocks of two nodes; and one of them in two parts, in blocks of three nodes, of which the
+-- last is shorter
 abbrev pub BlocksByExample : Type 0
 BlocksByExample =
     (block_layout path_labels 2 4 1 0 ≡ codes "0\tV 2 0,1\n1\tV 2 2,3\n" ∷ [])
@@ -69,7 +69,8 @@ BlockFlowByExample =
 abbrev pub closed_conf : Conf
 closed_conf = record path_conf { form = Diagonal }
 
--- its labels in blocks of two nodes, where each iteration closes them within the blocks first, and in one block
+-- its labels in blocks of two nodes, where each iteration closes them within the blocks first, and in one
+-- block
 abbrev pub ClosedByExample : Type 0
 ClosedByExample =
     (block_layout (diagonal_labels 2 path_edges) 2 4 1 0 ≡ codes "0\tV 2 0,1\n1\tV 2 2,3\n" ∷ [])
@@ -78,8 +79,8 @@ ClosedByExample =
     × (block_layout (diagonal_labels 2 path_edges) 2 4 1 3 ≡ codes "0\tV 0 0,0\n1\tV 0 0,0\n" ∷ [])
     × (block_layout (diagonal_labels 4 path_edges) 4 4 1 1 ≡ codes "0\tV 3 0,0,0,0\n" ∷ [])
 
--- what the jobs leave: an iteration and its count, the last iteration, which comes before that of plain steps, and
--- the result
+-- what the jobs leave: an iteration and its count, the last iteration, which comes before that of plain
+-- steps, and the result
 abbrev pub DiagonalFlowByExample : Type 0
 DiagonalFlowByExample =
     (flow (mining_of bundled closed_conf path_edges) (Vector 1) ≡ codes "0\tV 1 0,0\n1\tV 2 0,2\n" ∷ [])

@@ -17,7 +17,8 @@ use Rattle.flow_forms.specs.Ends.{EndsWith}
 
 -- whole iterations 0 to k, none after the last one, each with these parts; and a result, where it is whole,
 -- is that of the last one
-pub record HoldsVectors (conf : Conf) (s : Sequence) (vector : ℕ → List (List ℕ)) (image : Image) : Type 0 where
+pub record HoldsVectors (conf : Conf) (s : Sequence) (vector : ℕ → List (List ℕ)) (image : Image)
+    : Type 0 where
   pub newest : Option ℕ
   pub whole : IsWholeUpTo newest image
   pub last : ℕ

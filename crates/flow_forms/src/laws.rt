@@ -1,8 +1,11 @@
 //! Each law is the contract of a function that does nothing, or that calls others for their laws.
 ghost use Rattle.flow_forms.specs.AsBase.{FormsEndAsBase};
-ghost use Rattle.flow_forms.specs.BlockForm.{BlockEndsAsBase, BlockFlow, BlockKeepsIterates, FileBlockEndsAsBase, FileBlockFlow};
-ghost use Rattle.flow_forms.specs.DiagonalForm.{DiagonalEndsAsBase, DiagonalFlow, DiagonalKeepsLabels, FileDiagonalEndsAsBase, FileDiagonalFlow};
-ghost use Rattle.flow_forms.specs.Examples.{BlockFlowByExample, BlockRanksByExample, BlocksByExample, ClosedByExample, DiagonalFlowByExample};
+ghost use Rattle.flow_forms.specs.BlockForm.{BlockEndsAsBase, BlockFlow, BlockKeepsIterates};
+ghost use Rattle.flow_forms.specs.BlockForm.{FileBlockEndsAsBase, FileBlockFlow};
+ghost use Rattle.flow_forms.specs.DiagonalForm.{DiagonalEndsAsBase, DiagonalFlow, DiagonalKeepsLabels};
+ghost use Rattle.flow_forms.specs.DiagonalForm.{FileDiagonalEndsAsBase, FileDiagonalFlow};
+ghost use Rattle.flow_forms.specs.Examples.{BlockFlowByExample, BlockRanksByExample, BlocksByExample};
+ghost use Rattle.flow_forms.specs.Examples.{ClosedByExample, DiagonalFlowByExample};
 ghost use Rattle.flow_forms.specs.Held.{FormsKeepVectors};
 
 use flow_diag::laws::diagonal_vectors_are_labels;
@@ -32,14 +35,14 @@ pub fn block_ends_as_base()
     ensures files { FileBlockEndsAsBase }
 {}
 
-/// Each image that is kept of such a run holds whole iterations, each so many steps, and the result of the last
-/// one.
+/// Each image that is kept of such a run holds whole iterations, each so many steps, and the result of the
+/// last one.
 pub fn block_keeps_iterates()
     ensures { BlockKeepsIterates }
 {}
 
-/// Where the children are the bundled ones, each vector of the diagonal form is so many steps of closed labels,
-/// block by block, and its lines count what the last of them changed.
+/// Where the children are the bundled ones, each vector of the diagonal form is so many steps of closed
+/// labels, block by block, and its lines count what the last of them changed.
 pub fn diagonal_flow()
     ensures edges { DiagonalFlow }
     ensures files { FileDiagonalFlow }
