@@ -1,18 +1,26 @@
 use crate::directory::{rest, word};
 use crate::reading::path_of;
-use crate::settings::{check_settings, command_in, number_in, paths_in, small_in};
+use crate::settings::{check_settings, command_in, number_in, paths_in, small_in, text_in};
 use crate::trouble::Trouble;
 use crate::world::World;
 use crate::writing::{add, add_number, add_task};
 use job::{JobFault, JobReport, JobSpec, run_job};
+use spec_job::run_job_twice;
 use std::alloc::Global;
+
+/// How many attempts of a task may run at once.
+#[derive(Clone, Copy)]
+enum Attempts {
+    One,
+    Two,
+}
 
 /// The job that the words tell.
 fn spec_of(alloc: Global, folder: &[u8], settings: &[Vec<u8>]) -> Result<JobSpec, Trouble> {
     check_settings(
         settings,
         &[
-            b"from", b"parts", b"split", b"slots", b"spill", b"map", b"reduce",
+            b"from", b"parts", b"split", b"slots", b"spill", b"backup", b"map", b"reduce",
         ],
     )?;
     Ok(JobSpec {
@@ -27,10 +35,20 @@ fn spec_of(alloc: Global, folder: &[u8], settings: &[Vec<u8>]) -> Result<JobSpec
     })
 }
 
+/// Two where the words say `backup yes`.
+fn attempts_in(settings: &[Vec<u8>]) -> Result<Attempts, Trouble> {
+    match text_in(settings, b"backup")? {
+        b"" | b"no" => Ok(Attempts::One),
+        b"yes" => Ok(Attempts::Two),
+        _ => Err(Trouble::Misread),
+    }
+}
+
 /// Runs a job that is within its limits, where no child runs.
 fn run_tried(
     alloc: Global,
     world: &mut World,
+    attempts: Attempts,
     spec: &JobSpec,
 ) -> Result<Result<JobReport, JobFault>, Trouble> {
     if spec.folder.names().is_empty() || spec.folder.names().len() > 4 || spec.inputs.len() > 128 {
@@ -45,7 +63,10 @@ fn run_tried(
     if spec.split == 0 || spec.split > 1 << 60 || world.site.site.running() != 0 {
         return Err(Trouble::Misread);
     }
-    Ok(run_job(alloc, &mut world.site, spec))
+    match attempts {
+        Attempts::One => Ok(run_job(alloc, &mut world.site, spec)),
+        Attempts::Two => Ok(run_job_twice(alloc, &mut world.site, spec)),
+    }
 }
 
 fn of_report(alloc: Global, report: &JobReport) -> Result<Vec<u8>, Trouble> {
@@ -74,10 +95,12 @@ fn of_fault(alloc: Global, fault: &JobFault) -> Result<Vec<u8>, Trouble> {
     Ok(out)
 }
 
-/// `FOLDER from INPUT .. parts N split N slots N spill N map WORD .. reduce WORD ..`
+/// `FOLDER from INPUT .. parts N split N slots N spill N backup yes map WORD .. reduce WORD ..`
 pub(crate) fn run(alloc: Global, world: &mut World, args: &[Vec<u8>]) -> Result<Vec<u8>, Trouble> {
-    let spec = spec_of(alloc, word(args, 0), rest(args, 1))?;
-    match &run_tried(alloc, world, &spec)? {
+    let settings = rest(args, 1);
+    let attempts = attempts_in(settings)?;
+    let spec = spec_of(alloc, word(args, 0), settings)?;
+    match &run_tried(alloc, world, attempts, &spec)? {
         Ok(report) => of_report(alloc, report),
         Err(fault) => of_fault(alloc, fault),
     }

@@ -4,9 +4,9 @@ use peg_base::{Path, Words};
 use std::alloc::Global;
 
 /// The words that settings begin with.
-const NAMES: [&[u8]; 10] = [
-    b"from", b"into", b"parts", b"split", b"slots", b"spill", b"scratch", b"map", b"reduce",
-    b"pairs",
+const NAMES: [&[u8]; 11] = [
+    b"from", b"into", b"parts", b"split", b"slots", b"spill", b"backup", b"scratch", b"map",
+    b"reduce", b"pairs",
 ];
 
 fn is_name(word: &[u8]) -> bool {
