@@ -43,7 +43,7 @@ use Rattle.flow_block.proofs.BlockJoins.{vector_pair}
 use Rattle.flow_block.proofs.BlockMakes.{messages_in-flat}
 use Rattle.flow_diag.specs.Closing.{closed}
 use Rattle.flow_diag.proofs.ClosedValues.{closed_falls, mine}
-use Rattle.flow_diag.proofs.DiagonalSends.{all_sent, as_pair, block_of_sent, c_fits, own_of, parts_in, sent_by, sent_of}
+use Rattle.flow_diag.proofs.DiagonalSends.{all_sent, as_pair, block_of_sent, closed_vector_fits, own_of, parts_in, sent_by, sent_of}
 
 -- of a list's own parts one comes to each row
 none_before : {Val Msg : Type 0} (as_msg : Val → Msg) (w : ℕ → Val) (o row i count : ℕ) → o < row → messages_in o (own_parts as_msg row (map w (range_with_len i count))) ≡ []
@@ -75,11 +75,11 @@ module _ {Val Msg Weight : Type 0} (a : Algebra Val Msg Weight) (as_msg : Val �
   abbrev Sent : Type 0
   Sent = ℕ × List (ℕ × Msg)
 
-  abbrev c : Vector Val
-  c = closed a.algorithm len entries v
+  abbrev closed_vector : Vector Val
+  closed_vector = closed a.algorithm len entries v
 
   abbrev next : Vector Val
-  next = step a.algorithm entries c
+  next = step a.algorithm entries closed_vector
 
   abbrev lines_at : ℕ → List (BlockLine Weight)
   lines_at = mine a as_msg laws closing list_rounds len n some number entries fits lines good are_cut
@@ -126,7 +126,7 @@ module _ {Val Msg Weight : Type 0} (a : Algebra Val Msg Weight) (as_msg : Val �
     there sent = cond (eqb (to sent) j) (here sent) []
 
     abbrev lines_sent : List Msg
-    lines_sent = flat_map (λ line. sent_to a.algorithm line c node) (map (entries_of_line len) lines)
+    lines_sent = flat_map (λ line. sent_to a.algorithm line closed_vector node) (map (entries_of_line len) lines)
 
     abbrev arrived : List Msg
     arrived = messages_in o (flat_map (λ sent. sent) (map parts (came j)))
@@ -134,24 +134,24 @@ module _ {Val Msg Weight : Type 0} (a : Algebra Val Msg Weight) (as_msg : Val �
     node_low : node < n
     node_low = let placed = block_placed len n j some low in omega (arith, inside, placed.end)
 
-    own_message : here (own j) ≡ as_msg (c node) ∷ []
-    own_message = one_own as_msg c o 0 (j * len) (block_size len n j) (omega arith) (omega (arith, inside)) ∙ (let at : j * len + (o - 0) ≡ node = omega arith in ap (λ (k : ℕ). as_msg (c k) ∷ []) at)
+    own_message : here (own j) ≡ as_msg (closed_vector node) ∷ []
+    own_message = one_own as_msg closed_vector o 0 (j * len) (block_size len n j) (omega arith) (omega (arith, inside)) ∙ (let at : j * len + (o - 0) ≡ node = omega arith in ap (λ (k : ℕ). as_msg (closed_vector k) ∷ []) at)
 
-    line_parts : (line : BlockLine Weight) → there (passed line) ≡ messages_in o (parts_to a.algorithm len c j (block_size len n j) line)
+    line_parts : (line : BlockLine Weight) → there (passed line) ≡ messages_in o (parts_to a.algorithm len closed_vector j (block_size len n j) line)
     line_parts line =
         elim (cases_Bool (eqb line.row_block j)) [
-          | inl is ↦ let same = eqb-true line.row_block j is in rw is (ap (λ (k : ℕ). messages_in o (parts_of a.algorithm (block_size len n k) (passed_by a.algorithm len c line))) same)
+          | inl is ↦ let same = eqb-true line.row_block j is in rw is (ap (λ (k : ℕ). messages_in o (parts_of a.algorithm (block_size len n k) (passed_by a.algorithm len closed_vector line))) same)
           | inr isnt ↦ rw isnt refl
         ]
 
     lines_are : flat_map (λ line. there (passed line)) lines ≡ lines_sent
     lines_are =
         let placed = block_placed len n j some low in
-        let part : BlockLine Weight → List (ℕ × Msg) = parts_to a.algorithm len c j (block_size len n j) in
+        let part : BlockLine Weight → List (ℕ × Msg) = parts_to a.algorithm len closed_vector j (block_size len n j) in
         flat_map_agree (λ line. there (passed line)) (λ line. messages_in o (part line)) lines (all_each (λ line. there (passed line) ≡ messages_in o (part line)) line_parts lines)
         ∙ sym (messages_in-flat o part lines)
-        ∙ parts_are_sent a.algorithm len j (block_size len n j) o c placed.short inside lines small_items
-        ∙ sym (flat_map-map (λ line. sent_to a.algorithm line c node) (entries_of_line len) lines)
+        ∙ parts_are_sent a.algorithm len j (block_size len n j) o closed_vector placed.short inside lines small_items
+        ∙ sym (flat_map-map (λ line. sent_to a.algorithm line closed_vector node) (entries_of_line len) lines)
 
     abbrev all : List ℕ
     all = all_blocks len n
@@ -162,7 +162,7 @@ module _ {Val Msg Weight : Type 0} (a : Algebra Val Msg Weight) (as_msg : Val �
     abbrev theirs : ℕ → List Msg
     theirs i = flat_map there (map passed (lines_at i))
 
-    firsts : flat_map mine_there all ≡ as_msg (c node) ∷ []
+    firsts : flat_map mine_there all ≡ as_msg (closed_vector node) ∷ []
     firsts =
         flat_map_where (λ i. eqb i j) (λ i. here (own i)) all
         ∙ ap (flat_map (λ i. here (own i))) (filter_agree_on (λ i. eqb i j) (λ i. eqb j i) all (all_each (λ i. eqb i j ≡ eqb j i) (λ i. turned i j) all) ∙ once_in_range j 0 (block_count len n) (omega arith) (omega (arith, low)))
@@ -181,29 +181,29 @@ module _ {Val Msg Weight : Type 0} (a : Algebra Val Msg Weight) (as_msg : Val �
         subst (λ zs. IsPermutation (flat_map by_line (group i)) zs) (sym (flat_map-map there passed (lines_at i))) (in_order_flat (λ d e. pair_before (line_pair number d) (line_pair number e)) by_line (group i))) all))))
 
     -- of all that was sent
-    all_there : IsPermutation (flat_map there everything) (as_msg (c node) ∷ lines_sent)
+    all_there : IsPermutation (flat_map there everything) (as_msg (closed_vector node) ∷ lines_sent)
     all_there =
         let one : flat_map there everything ≡ flat_map (λ i. mine_there i ++ theirs i) all = flat_map-flat_map there sends all in
-        subst (λ zs. IsPermutation zs (as_msg (c node) ∷ lines_sent)) (sym one)
-        (IsPermutation-trans (flat_map (λ i. mine_there i ++ theirs i) all) (flat_map mine_there all ++ flat_map theirs all) (as_msg (c node) ∷ lines_sent) (permuted_apart mine_there theirs all)
-        (IsPermutation-append (flat_map mine_there all) (as_msg (c node) ∷ []) (flat_map theirs all) lines_sent (same_items (flat_map mine_there all) (as_msg (c node) ∷ []) firsts) seconds))
+        subst (λ zs. IsPermutation zs (as_msg (closed_vector node) ∷ lines_sent)) (sym one)
+        (IsPermutation-trans (flat_map (λ i. mine_there i ++ theirs i) all) (flat_map mine_there all ++ flat_map theirs all) (as_msg (closed_vector node) ∷ lines_sent) (permuted_apart mine_there theirs all)
+        (IsPermutation-append (flat_map mine_there all) (as_msg (closed_vector node) ∷ []) (flat_map theirs all) lines_sent (same_items (flat_map mine_there all) (as_msg (closed_vector node) ∷ []) firsts) seconds))
 
     -- so the messages to the row
-    moved : IsPermutation (as_msg (c node) ∷ lines_sent) arrived
+    moved : IsPermutation (as_msg (closed_vector node) ∷ lines_sent) arrived
     moved =
         let found = items_of decimal eqb pair to everything j in
         let back : flat_map here (came j) ≡ arrived = sym (messages_in-flat o parts (came j)) ∙ ap (messages_in o) (sym (flat_map-map (λ (sent : List (ℕ × Msg)). sent) parts (came j))) in
         let same : flat_map there everything ≡ flat_map here found = flat_map_where (λ sent. eqb (to sent) j) here everything in
-        subst (λ zs. IsPermutation (as_msg (c node) ∷ lines_sent) zs) back
-        (IsPermutation-trans (as_msg (c node) ∷ lines_sent) (flat_map here found) (flat_map here (came j))
-        (subst (λ zs. IsPermutation (as_msg (c node) ∷ lines_sent) zs) same (IsPermutation-sym (flat_map there everything) (as_msg (c node) ∷ lines_sent) all_there))
+        subst (λ zs. IsPermutation (as_msg (closed_vector node) ∷ lines_sent) zs) back
+        (IsPermutation-trans (as_msg (closed_vector node) ∷ lines_sent) (flat_map here found) (flat_map here (came j))
+        (subst (λ zs. IsPermutation (as_msg (closed_vector node) ∷ lines_sent) zs) same (IsPermutation-sym (flat_map there everything) (as_msg (closed_vector node) ∷ lines_sent) all_there))
         (in_order_flat (λ d e. pair_before (pair d) (pair e)) here found))
 
     new_value : a.algorithm.assign (v node) (all_of a.algorithm arrived) ≡ next node
     new_value =
         let is_node = lt-ltb node n node_low in
-        sent_closed a as_msg laws closing (first_nodes n) entries (map (entries_of_line len) lines) v c fits vector
-        (c_fits a as_msg laws closing list_rounds len n some short few number entries fits lines good are_cut counts most v vector) are_cut node is_node
+        sent_closed a as_msg laws closing (first_nodes n) entries (map (entries_of_line len) lines) v closed_vector fits vector
+        (closed_vector_fits a as_msg laws closing list_rounds len n some short few number entries fits lines good are_cut counts most v vector) are_cut node is_node
         (closed_falls a as_msg laws closing list_rounds len n some number entries fits lines good are_cut v vector node is_node) arrived moved
 
   pub makes : (j : ℕ) → In j

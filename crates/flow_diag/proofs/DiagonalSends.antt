@@ -89,7 +89,7 @@ module _ {Val Msg Weight : Type 0} (a : Algebra Val Msg Weight) (as_msg : Val �
       ap (option_and_then (raw_fields a rows columns')) (around-is 58 (decimal e.row) rest of_row.no_colon)
       ∙ ap (option_and_then (λ (r : ℕ). option_and_then (weighed_of a r columns') (around_colon rest))) (number_below-decimal rows e.row row (omega arith))
       ∙ ap (option_and_then (weighed_of a e.row columns')) (around-is 58 (decimal e.column) weight of_column.no_colon)
-      ∙ ap (option_and_then (λ (c : ℕ). option_map (λ (w : Weight). record { row = e.row; column = c; weight = w }) (a.weight_of weight))) (number_below-decimal columns' e.column column (omega arith))
+      ∙ ap (option_and_then (λ (k : ℕ). option_map (λ (w : Weight). record { row = e.row; column = k; weight = w }) (a.weight_of weight))) (number_below-decimal columns' e.column column (omega arith))
       ∙ ap (option_map (λ (w : Weight). record { row = e.row; column = e.column; weight = w })) g.weighs
 
   raw_back : (line : BlockLine Weight) → GoodLine line → line_kind (values_at line.column_block) (record_of (line_pair number line)) ≡ Some (raw line)
@@ -105,7 +105,7 @@ module _ {Val Msg Weight : Type 0} (a : Algebra Val Msg Weight) (as_msg : Val �
         is = item_back rows size (size_few a laws len n some short few i) (size_few a laws len n some short few j) e g;
         plain = item_plain a number len n line some few h e g;
       }) line.items h.each) in
-      ap (λ (c : ℕ). raw_record_of a len n j c (record_of (line_pair number line))) (length-map-range_with_len v (j * len) size)
+      ap (λ (count : ℕ). raw_record_of a len n j count (record_of (line_pair number line))) (length-map-range_with_len v (j * len) size)
       ∙ ap (option_and_then (raw_line_of a len n size)) (line_back a number len n line some few h).is
       ∙ ap (λ (ts : List (List ℕ)). option_map (λ (es : List (Item Weight)). (i, es)) (items_of kind (join_with_byte 44 ts))) (map-map item_text (numbered_entry number) line.items)
       ∙ ap (option_map (λ (es : List (Item Weight)). (i, es))) back
@@ -121,14 +121,14 @@ module _ {Val Msg Weight : Type 0} (a : Algebra Val Msg Weight) (as_msg : Val �
 
   -- ---- what is sent
 
-  abbrev pub c : Vector Val
-  c = closed a.algorithm len entries v
+  abbrev pub closed_vector : Vector Val
+  closed_vector = closed a.algorithm len entries v
 
-  pub c_fits : VectorFits a (first_nodes n) c
-  c_fits = closed_fits a as_msg laws closing list_rounds len n some number entries fits lines good are_cut v vector
+  pub closed_vector_fits : VectorFits a (first_nodes n) closed_vector
+  closed_vector_fits = closed_fits a as_msg laws closing list_rounds len n some number entries fits lines good are_cut v vector
 
   abbrev closed_of : ℕ → List Val
-  closed_of j = map c (nodes_of_block len n j)
+  closed_of j = map closed_vector (nodes_of_block len n j)
 
   -- a block, and messages to its rows
   abbrev pub as_pair : ℕ × List (ℕ × Msg) → Pair
@@ -138,19 +138,19 @@ module _ {Val Msg Weight : Type 0} (a : Algebra Val Msg Weight) (as_msg : Val �
   own_of j = (j, own_parts as_msg 0 (closed_of j))
 
   abbrev pub sent_of : BlockLine Weight → ℕ × List (ℕ × Msg)
-  sent_of line = (line.row_block, parts_of a.algorithm (block_size len n line.row_block) (passed_by a.algorithm len c line))
+  sent_of line = (line.row_block, parts_of a.algorithm (block_size len n line.row_block) (passed_by a.algorithm len closed_vector line))
 
   abbrev pub sent_by : ℕ → List (ℕ × List (ℕ × Msg))
   sent_by j = own_of j ∷ map sent_of (lines_at j)
 
-  passed_is : (j : ℕ) (line : BlockLine Weight) → line.column_block ≡ j → GoodLine line → flat_map (passed_from a (closed_of j)) (map as_item line.items) ≡ passed_by a.algorithm len c line
+  passed_is : (j : ℕ) (line : BlockLine Weight) → line.column_block ≡ j → GoodLine line → flat_map (passed_from a (closed_of j)) (map as_item line.items) ≡ passed_by a.algorithm len closed_vector line
   passed_is j line here h =
       let size = block_size len n j in
-      let theirs : Entry Weight → ℕ × Msg = λ e. (e.row, a.algorithm.combine2 e.weight (c (node_at len line.column_block e.column))) in
+      let theirs : Entry Weight → ℕ × Msg = λ e. (e.row, a.algorithm.combine2 e.weight (closed_vector (node_at len line.column_block e.column))) in
       flat_map-map (passed_from a (closed_of j)) as_item line.items
       ∙ flat_map_agree (λ e. passed_from a (closed_of j) (as_item e)) (λ e. theirs e ∷ []) line.items (All-weaker (IsGoodItem a number (block_size len n line.row_block) (block_size len n line.column_block)) (λ e. passed_from a (closed_of j) (as_item e) ≡ theirs e ∷ []) (λ e g.
-      ap (passed_value a (as_item e)) (get_mapped c (j * len) size e.column (subst (λ (b : ℕ). e.column < block_size len n b) here g.column))
-      ∙ ap (λ (b : ℕ). (e.row, a.algorithm.combine2 e.weight (c (node_at len b e.column))) ∷ []) (sym here)) line.items h.each)
+      ap (passed_value a (as_item e)) (get_mapped closed_vector (j * len) size e.column (subst (λ (b : ℕ). e.column < block_size len n b) here g.column))
+      ∙ ap (λ (b : ℕ). (e.row, a.algorithm.combine2 e.weight (closed_vector (node_at len b e.column))) ∷ []) (sym here)) line.items h.each)
       ∙ flat_map_single theirs line.items
 
   line_is : (j : ℕ) (line : BlockLine Weight) → line.column_block ≡ j → GoodLine line → passed_line a len n (closed_of j) (raw line) ≡ pair_line (as_pair (sent_of line)).0 (as_pair (sent_of line)).1
@@ -184,16 +184,16 @@ module _ {Val Msg Weight : Type 0} (a : Algebra Val Msg Weight) (as_msg : Val �
   own_sound j low =
       let size = block_size len n j in
       let placed = block_placed len n j some low in
-      let long : length (closed_of j) ≡ size = length-map-range_with_len c (j * len) size in
+      let long : length (closed_of j) ≡ size = length-map-range_with_len closed_vector (j * len) size in
       let each : All (λ w. FitsMsg a (as_msg w)) (closed_of j) =
-      All-map (λ w. FitsMsg a (as_msg w)) c (nodes_of_block len n j) (All-weaker (λ i. (j * len ≤ i) × (i < n)) (λ i. FitsMsg a (as_msg (c i))) (λ i h. closing.as_msg_fits (c i) (c_fits i (lt-ltb i n h.1))) (nodes_of_block len n j) (nodes_in_block len n j some low)) in record {
+      All-map (λ w. FitsMsg a (as_msg w)) closed_vector (nodes_of_block len n j) (All-weaker (λ i. (j * len ≤ i) × (i < n)) (λ i. FitsMsg a (as_msg (closed_vector i))) (λ i h. closing.as_msg_fits (closed_vector i) (closed_vector_fits i (lt-ltb i n h.1))) (nodes_of_block len n j) (nodes_in_block len n j some low)) in record {
         low = low;
         back = parts_read_back a laws j size (own_parts as_msg 0 (closed_of j)) (omega (arith, low, blocks_few a laws len n some short few)) (omega (arith, size_few a laws len n some short few j))
             (own_some as_msg (closed_of j) (omega (arith, long, placed.some))) (own_good a as_msg 0 size (closed_of j) (omega (arith, long)) each);
       }
 
   line_sound : (line : BlockLine Weight) → GoodLine line → IsSound (sent_of line)
-  line_sound line h = record { low = h.row_low; back = parts_back a laws len n some short few counts most c c_fits number line h }
+  line_sound line h = record { low = h.row_low; back = parts_back a laws len n some short few counts most closed_vector closed_vector_fits number line h }
 
   abbrev pub all_sent : List (ℕ × List (ℕ × Msg))
   all_sent = flat_map sent_by (all_blocks len n)

@@ -156,8 +156,8 @@ module _ (vectors_law : DiagonalVectorsAreLabels) (fit_law : DiagonalLabelsFit) 
   -- ---- the last iteration
 
   module _ (ends_law : DiagonalEndsAtLeast) where
-    abbrev E : DiagonalEnds conf.nodes conf.block edges
-    E = ends_law conf.nodes conf.block edges run.limits.nodes.0 (let low = run.limits.nodes.1 in omega arith) good.below
+    abbrev own_end : DiagonalEnds conf.nodes conf.block edges
+    own_end = ends_law conf.nodes conf.block edges run.limits.nodes.0 (let low = run.limits.nodes.1 in omega arith) good.below
 
     abbrev passes : ℕ → Bool
     passes k = leb 1 k && (eqb (diagonal_changed conf.block edges conf.nodes k) 0 || false)
@@ -168,10 +168,10 @@ module _ (vectors_law : DiagonalVectorsAreLabels) (fit_law : DiagonalLabelsFit) 
         ap (is_end conf k) (counts k ∙ ap Some (changed_is k))
         ∙ ap (λ (c : Command). leb 1 k && ((ends_unchanged c && is_unchanged (Some m)) || (ends_at_most c && eqb k (most_of conf c)))) is_hcc
 
-    passes_last : passes E.last ≡ true
+    passes_last : passes own_end.last ≡ true
     passes_last =
-        let low : leb 1 E.last ≡ true = le-leb 1 E.last E.made in
-        let none : eqb (diagonal_changed conf.block edges conf.nodes E.last) 0 ≡ true = eq-eqb (diagonal_changed conf.block edges conf.nodes E.last) 0 E.unchanged in
+        let low : leb 1 own_end.last ≡ true = le-leb 1 own_end.last own_end.made in
+        let none : eqb (diagonal_changed conf.block edges conf.nodes own_end.last) 0 ≡ true = eq-eqb (diagonal_changed conf.block edges conf.nodes own_end.last) 0 own_end.unchanged in
         rw (low, none) refl
 
     unchanged_at : (k : ℕ) → passes k ≡ true → diagonal_changed conf.block edges conf.nodes k ≡ 0
@@ -183,67 +183,67 @@ module _ (vectors_law : DiagonalVectorsAreLabels) (fit_law : DiagonalLabelsFit) 
           | inr some ↦ absurd (false≢true (rw some at tail))
         ]
 
-    found : IsFound passes 1 conf.nodes E.last
-    found = found_up_to passes 1 conf.nodes E.last E.made (let soon = E.soon in omega arith) passes_last
+    found : IsFound passes 1 conf.nodes own_end.last
+    found = found_up_to passes 1 conf.nodes own_end.last own_end.made (let soon = own_end.soon in omega arith) passes_last
 
-    found_last : found.at ≡ E.last
+    found_last : found.at ≡ own_end.last
     found_last =
-        elim (cases_lt found.at E.last) [
-          | inl less ↦ absurd (E.earlier found.at found.low less (unchanged_at found.at found.passes))
+        elim (cases_lt found.at own_end.last) [
+          | inl less ↦ absurd (own_end.earlier found.at found.low less (unchanged_at found.at found.passes))
           | inr ge ↦ let high = found.high in omega arith
         ]
 
     most_is : most_of conf conf.command ≡ conf.nodes
     most_is = ap (most_of conf) is_hcc
 
-    is_last : last_of (mining_of gives conf edges) ≡ Some E.last
+    is_last : last_of (mining_of gives conf edges) ≡ Some own_end.last
     unfolding last_of
     is_last =
         find_agree (λ k. is_end conf k (count_of (mining_of gives conf edges) k)) passes (range_with_len 1 (most_of conf conf.command)) end_is
         ∙ ap (λ (most : ℕ). find passes (range_with_len 1 most)) most_is
         ∙ found.found ∙ ap Some found_last
 
-    first : IsLast conf (changed_in s conf.nodes) E.last
+    first : IsLast conf (changed_in s conf.nodes) own_end.last
     first = record {
-      made = E.made;
-      ends = subst (λ (c : Command). EndsAt c conf (changed_in s conf.nodes E.last) E.last) (sym is_hcc) (changed_is E.last ∙ E.unchanged);
-      earlier = λ j low less at. E.earlier j low less (sym (changed_is j) ∙ subst (λ (c : Command). EndsAt c conf (changed_in s conf.nodes j) j) is_hcc at);
+      made = own_end.made;
+      ends = subst (λ (c : Command). EndsAt c conf (changed_in s conf.nodes own_end.last) own_end.last) (sym is_hcc) (changed_is own_end.last ∙ own_end.unchanged);
+      earlier = λ j low less at. own_end.earlier j low less (sym (changed_is j) ∙ subst (λ (c : Command). EndsAt c conf (changed_in s conf.nodes j) j) is_hcc at);
     }
 
     -- ---- the result
 
-    result_is : flow (mining_of gives conf edges) Results ≡ result_parts s conf.nodes conf.reducers E.last
+    result_is : flow (mining_of gives conf edges) Results ≡ result_parts s conf.nodes conf.reducers own_end.last
     result_is =
         result_made gives conf Diagonal run.form (diagonal_sender conf) (diagonal_goes conf) edges
         ∙ results (unwrap_or (last_of (mining_of gives conf edges)) 0)
         ∙ ap (λ (l : Option ℕ). result_parts s conf.nodes conf.reducers (unwrap_or l 0)) is_last
 
-    number_small : (i : ℕ) → i < conf.nodes → s.number E.last i < 2 ^ 64
-    number_small i low = hcc_is_lawful.number_fits (labels E.last i) (fit E.last i (lt-ltb i conf.nodes low))
+    number_small : (i : ℕ) → i < conf.nodes → s.number own_end.last i < 2 ^ 64
+    number_small i low = hcc_is_lawful.number_fits (labels own_end.last i) (fit own_end.last i (lt-ltb i conf.nodes low))
 
-    numbers_hold : Holds (result_parts s conf.nodes conf.reducers E.last) (map (number_pair s E.last) (range_with_len 0 conf.nodes))
+    numbers_hold : Holds (result_parts s conf.nodes conf.reducers own_end.last) (map (number_pair s own_end.last) (range_with_len 0 conf.nodes))
     numbers_hold =
-        holds_parts conf.reducers (map (number_pair s E.last) (range_with_len 0 conf.nodes)) is_cut.some_reducers
-        (All-map IsPlain (number_pair s E.last) (range_with_len 0 conf.nodes) (all_below conf.nodes (λ i. IsPlain (number_pair s E.last i)) (λ i low. numbered_plain i (s.number E.last i) (omega (arith, low, few)) (number_small i low))))
+        holds_parts conf.reducers (map (number_pair s own_end.last) (range_with_len 0 conf.nodes)) is_cut.some_reducers
+        (All-map IsPlain (number_pair s own_end.last) (range_with_len 0 conf.nodes) (all_below conf.nodes (λ i. IsPlain (number_pair s own_end.last i)) (λ i low. numbered_plain i (s.number own_end.last i) (omega (arith, low, few)) (number_small i low))))
 
-    total_is : total_in conf.command (flow (mining_of gives conf edges) Results) ≡ Some (total_by conf.command s conf.nodes E.last)
-    total_is = ap (total_in conf.command) result_is ∙ total_of_result s conf.nodes conf.reducers E.last few number_small numbers_hold conf.command
+    total_is : total_in conf.command (flow (mining_of gives conf edges) Results) ≡ Some (total_by conf.command s conf.nodes own_end.last)
+    total_is = ap (total_in conf.command) result_is ∙ total_of_result s conf.nodes conf.reducers own_end.last few number_small numbers_hold conf.command
 
     -- numbers that are the least labels too are those of the result
-    same_numbers : (number : ℕ → ℕ) → ((i : ℕ) → i < conf.nodes → labels E.last i ≡ number i) → result_parts s conf.nodes conf.reducers E.last ≡ parts_of_numbers conf number
+    same_numbers : (number : ℕ → ℕ) → ((i : ℕ) → i < conf.nodes → labels own_end.last i ≡ number i) → result_parts s conf.nodes conf.reducers own_end.last ≡ parts_of_numbers conf number
     same_numbers number same =
-        ap (parts_with conf.reducers) (map_agree (number_pair s E.last) (λ node. (decimal node, decimal (number node))) (range_with_len 0 conf.nodes) (all_below conf.nodes (λ i. number_pair s E.last i ≡ (decimal i, decimal (number i))) (λ i low. ap (λ (label : ℕ). (decimal i, decimal label)) (same i low))))
+        ap (parts_with conf.reducers) (map_agree (number_pair s own_end.last) (λ node. (decimal node, decimal (number node))) (range_with_len 0 conf.nodes) (all_below conf.nodes (λ i. number_pair s own_end.last i ≡ (decimal i, decimal (number i))) (λ i low. ap (λ (label : ℕ). (decimal i, decimal label)) (same i low))))
 
     ends_with : EndsWith gives conf edges s
     ends_with = record {
-      last = E.last;
+      last = own_end.last;
       is_last = is_last;
       first = first;
-      soon = subst (λ (most : ℕ). E.last ≤ most) (sym most_is) E.soon;
+      soon = subst (λ (most : ℕ). own_end.last ≤ most) (sym most_is) own_end.soon;
       result = result_is;
       total = total_is;
-      says = said_is gives conf edges s counts E.last total_is;
-      least = λ is found' are. same_numbers (λ node. get_or found' node 0) (λ i low. IsLeast-unique edges i (labels E.last i) (get_or found' i 0) (E.least i low) (are.least i low));
+      says = said_is gives conf edges s counts own_end.last total_is;
+      least = λ is found' are. same_numbers (λ node. get_or found' node 0) (λ i low. IsLeast-unique edges i (labels own_end.last i) (get_or found' i 0) (own_end.least i low) (are.least i low));
       radii = λ is radius are. let both : Hcc ≡ Hadi = sym is_hcc ∙ is in cc;
     }
 
@@ -271,7 +271,7 @@ module _ (vectors_law : DiagonalVectorsAreLabels) (fit_law : DiagonalLabelsFit) 
     has_base_result =
         let late : has_base.last ≡ plain_ends.last = hcc_last base base_is edges good is_hcc has_base.last has_base.first in
         result_is
-        ∙ same_numbers (iterate hcc (hcc_entries edges) has_base.last) (λ i low. IsLeast-unique edges i (labels E.last i) (iterate hcc (hcc_entries edges) has_base.last i) (E.least i low) (plain_ends.least has_base.last (omega (arith, late)) i low))
+        ∙ same_numbers (iterate hcc (hcc_entries edges) has_base.last) (λ i low. IsLeast-unique edges i (labels own_end.last i) (iterate hcc (hcc_entries edges) has_base.last i) (own_end.least i low) (plain_ends.least has_base.last (omega (arith, late)) i low))
         ∙ sym base_numbers
 
 pub diagonal_flow : DiagonalVectorsAreLabels → DiagonalLabelsFit → DiagonalFlow
