@@ -17,7 +17,7 @@ use Rattle.flow_block.specs.BlockLayouts.{block_layout, places_text}
 use Rattle.flow_block.specs.BlockRoles.{BlockWords, FollowsBlockRoles}
 
 -- a block has nodes, and no more than a vector's line can count as changed
-pub record IsLength (len : ℕ) : Type 0 where
+pub record IsBlockLength (len : ℕ) : Type 0 where
   pub some : 1 ≤ len
   pub few : len ≤ 256
 
@@ -53,7 +53,7 @@ iterates_at id a entries = sequence a (iterate (over_places id a.algorithm) entr
 -- they hold the iterates
 abbrev pub BlockVectorsAreIterates : Type 0 → Type 0 → Type 0 → Type 0
 BlockVectorsAreIterates Val Msg Weight =
-    (gives : Giving) (a : Algebra Val Msg Weight) → IsLawful a → (len n : ℕ) → IsLength len → n ≤ 2 ^ 32
+    (gives : Giving) (a : Algebra Val Msg Weight) → IsLawful a → (len n : ℕ) → IsBlockLength len → n ≤ 2 ^ 32
     → (words : BlockWords) → FollowsBlockRoles gives a len n words → (cut : Cut) → IsCut cut
     → (number : Weight → ℕ) (entries : List (Entry Weight)) (blocks : List (List ℕ))
     → HasBlocks a number len n entries blocks
@@ -64,7 +64,7 @@ BlockVectorsAreIterates Val Msg Weight =
 -- what is made of a vector in blocks has the numbers of its values, as in the base form
 abbrev pub BlockResultsAreNumbers : Type 0 → Type 0 → Type 0 → Type 0
 BlockResultsAreNumbers Val Msg Weight =
-    (gives : Giving) (a : Algebra Val Msg Weight) → IsLawful a → (len n : ℕ) → IsLength len → n ≤ 2 ^ 32
+    (gives : Giving) (a : Algebra Val Msg Weight) → IsLawful a → (len n : ℕ) → IsBlockLength len → n ≤ 2 ^ 32
     → (words : BlockWords) → FollowsBlockRoles gives a len n words → (cut : Cut) → IsCut cut
     → (vectors : ℕ → Vector Val) → ((k : ℕ) → VectorFits a (first_nodes n) (vectors k))
     → (k : ℕ)

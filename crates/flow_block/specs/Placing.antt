@@ -15,7 +15,7 @@ use Rattle.flow_base.specs.Layouts.{changed_in, sequence, result_parts}
 use Rattle.flow_block.specs.BlockFolders.{HasBlocks}
 use Rattle.flow_block.specs.BlockLayouts.{block_layout, places_text}
 use Rattle.flow_block.specs.BlockRoles.{BlockWords, FollowsBlockRoles}
-use Rattle.flow_block.specs.Laws.{AreMadeInBlocks, IsLength}
+use Rattle.flow_block.specs.Laws.{AreMadeInBlocks, IsBlockLength}
 
 -- ---- vectors
 
@@ -26,7 +26,7 @@ vectors_at id vectors k p = vectors k (id p)
 -- folders over the blocks of the entries by places hold the iterates of the entries, place by place
 abbrev pub PlacedVectorsAreIterates : Type 0 → Type 0 → Type 0 → Type 0
 PlacedVectorsAreIterates Val Msg Weight =
-    (gives : Giving) (a : Algebra Val Msg Weight) → IsLawful a → (len n : ℕ) → IsLength len → n ≤ 2 ^ 32
+    (gives : Giving) (a : Algebra Val Msg Weight) → IsLawful a → (len n : ℕ) → IsBlockLength len → n ≤ 2 ^ 32
     → (words : BlockWords) → FollowsBlockRoles gives a len n words → (cut : Cut) → IsCut cut
     → (place id : ℕ → ℕ) → AreAtPlaces n place id
     → (number : Weight → ℕ) (entries : List (Entry Weight)) → All (IsInside n) entries
@@ -64,7 +64,7 @@ joined_by gives cut words id n vector = job_by gives cut words.unplace words.pla
 -- what is made of it has the numbers of the nodes' values, as in the base form
 abbrev pub PlacedResultsAreNumbers : Type 0 → Type 0 → Type 0 → Type 0
 PlacedResultsAreNumbers Val Msg Weight =
-    (gives : Giving) (a : Algebra Val Msg Weight) → IsLawful a → (len n : ℕ) → IsLength len → n ≤ 2 ^ 32
+    (gives : Giving) (a : Algebra Val Msg Weight) → IsLawful a → (len n : ℕ) → IsBlockLength len → n ≤ 2 ^ 32
     → (words : PlacingWords) → FollowsPlacing gives a len n words → (cut : Cut) → IsCut cut
     → (place id : ℕ → ℕ) → AreAtPlaces n place id
     → (vectors : ℕ → Vector Val) → ((k : ℕ) → VectorFits a (first_nodes n) (vectors k))

@@ -16,7 +16,7 @@ use Rattle.flow_base.specs.Matrices.{one_number}
 use Rattle.flow_block.specs.BlockFolders.{HasBlocks}
 use Rattle.flow_block.specs.BlockLayouts.{block_layout}
 use Rattle.flow_block.specs.BlockRoles.{BlockWords}
-use Rattle.flow_block.specs.Laws.{AreMadeInBlocks, IsLength}
+use Rattle.flow_block.specs.Laws.{AreMadeInBlocks, IsBlockLength}
 use Rattle.flow_diag.specs.Closing.{closed_iterate}
 use Rattle.flow_diag.specs.DiagonalRoles.{FollowsDiagonalRoles}
 
@@ -29,7 +29,7 @@ closed_iterates a len entries = sequence a (closed_iterate a.algorithm len entri
 abbrev pub DiagonalVectorsAreClosedIterates : Type 0 → Type 0 → Type 0 → Type 0
 DiagonalVectorsAreClosedIterates Val Msg Weight =
     (gives : Giving) (a : Algebra Val Msg Weight) (as_msg : Val → Msg) → IsLawful a → IsClosing a as_msg
-    → (len n : ℕ) → IsLength len → n ≤ 2 ^ 32
+    → (len n : ℕ) → IsBlockLength len → n ≤ 2 ^ 32
     → (words : BlockWords) → FollowsDiagonalRoles gives a as_msg len n words → (cut : Cut) → IsCut cut
     → (number : Weight → ℕ) (entries : List (Entry Weight)) (blocks : List (List ℕ))
     → HasBlocks a number len n entries blocks
@@ -52,7 +52,7 @@ diagonal_labels len edges = sequence hcc_algebra (diagonal_after len edges)
 -- for components these are what the folders hold
 abbrev pub DiagonalVectorsAreLabels : Type 0
 DiagonalVectorsAreLabels =
-    (gives : Giving) (len n : ℕ) → IsLength len → n ≤ 2 ^ 32
+    (gives : Giving) (len n : ℕ) → IsBlockLength len → n ≤ 2 ^ 32
     → (words : BlockWords) → FollowsDiagonalRoles gives hcc_algebra label_as_message len n words
     → (cut : Cut) → IsCut cut
     → (edges : List Edge) (blocks : List (List ℕ))

@@ -46,7 +46,7 @@ use Rattle.flow_forms.specs.AsBase.{TellsIterates}
 use Rattle.flow_forms.specs.BlockForm.{IsBlockRun, block_layout_of, BlockEndsAsBase, BlockFlow, BlockKeepsIterates, FileBlockEndsAsBase, FileBlockFlow}
 use Rattle.flow_forms.proofs.AsBase.{forms_end_as_base}
 use Rattle.flow_forms.proofs.BlockCounts.{count_of_blocks}
-use Rattle.flow_forms.proofs.Held.{forms_keep_vectors}
+use Rattle.flow_forms.proofs.Held.{forms_keep_iterations}
 use Rattle.flow_forms.proofs.Table.{block_goes, blocks_made, matrix_made, result_made, vectors_made}
 use Rattle.flow_forms.proofs.WordsBack.{block_words, follows_hadi, follows_hcc, follows_page_rank}
 
@@ -162,7 +162,7 @@ block_ends_as_base gives children conf run edges good = forms_end_as_base gives 
 
 pub block_keeps_iterates : BlockKeepsIterates
 block_keeps_iterates gives children conf run edges good =
-    forms_keep_vectors gives conf run.limits edges (iterates_of conf edges) (block_ends_as_base gives children conf run edges good).ends (block_layout_of conf edges) (λ k. (block_flow gives children conf run edges good k).vector)
+    forms_keep_iterations gives conf run.limits edges (iterates_of conf edges) (block_ends_as_base gives children conf run edges good).ends (block_layout_of conf edges) (λ k. (block_flow gives children conf run edges good k).vector)
 
 pub file_block_flow : FileBlockFlow
 file_block_flow gives children conf run bytes k = block_flow gives children conf run (edges_of conf.nodes bytes).edges (file_edges_are_countable conf.nodes bytes) k

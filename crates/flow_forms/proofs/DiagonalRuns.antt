@@ -62,7 +62,7 @@ use Rattle.flow_forms.specs.DiagonalForm.{IsDiagonalRun, DiagonalEndsAsBase, Dia
 use Rattle.flow_forms.specs.Ends.{EndsWith}
 use Rattle.flow_forms.proofs.AsBase.{base_run}
 use Rattle.flow_forms.proofs.BlockCounts.{count_of_blocks}
-use Rattle.flow_forms.proofs.Held.{forms_keep_vectors}
+use Rattle.flow_forms.proofs.Held.{forms_keep_iterations}
 use Rattle.flow_forms.proofs.Says.{said_is}
 use Rattle.flow_forms.proofs.Table.{blocks_made, diagonal_goes, diagonal_sender, matrix_made, result_made, vectors_made, words_of}
 use Rattle.flow_forms.proofs.WordsBack.{block_words, follows_diag1, follows_hcc}
@@ -288,7 +288,7 @@ diagonal_ends_as_base vectors_law fit_law ends_law gives children conf run edges
 
 pub diagonal_keeps_labels : DiagonalVectorsAreLabels → DiagonalLabelsFit → DiagonalEndsAtLeast → DiagonalKeepsLabels
 diagonal_keeps_labels vectors_law fit_law ends_law gives children conf run edges good =
-    forms_keep_vectors gives conf run.limits edges (labels_of conf edges) (diagonal_ends_as_base vectors_law fit_law ends_law gives children conf run edges good).ends (diagonal_layout_of conf edges) (vectors_are vectors_law fit_law gives children conf run edges good)
+    forms_keep_iterations gives conf run.limits edges (labels_of conf edges) (diagonal_ends_as_base vectors_law fit_law ends_law gives children conf run edges good).ends (diagonal_layout_of conf edges) (vectors_are vectors_law fit_law gives children conf run edges good)
 
 pub file_diagonal_flow : DiagonalVectorsAreLabels → DiagonalLabelsFit → FileDiagonalFlow
 file_diagonal_flow vectors_law fit_law gives children conf run bytes k = diagonal_flow vectors_law fit_law gives children conf run (edges_of conf.nodes bytes).edges (file_edges_are_countable conf.nodes bytes) k

@@ -17,7 +17,7 @@ use Rattle.flow_core.specs.Following.{Giving}
 use Rattle.flow_base.specs.Layouts.{Sequence, result_parts}
 use Rattle.flow.specs.Held.{IsWholeUpTo}
 use Rattle.flow_forms.specs.Ends.{EndsWith}
-use Rattle.flow_forms.specs.Held.{HoldsAll, HoldsVectors, FormsKeepVectors}
+use Rattle.flow_forms.specs.Held.{HoldsAll, HoldsVectors, FormsKeepIterations}
 
 -- ---- the newest iteration that an image has whole
 
@@ -148,5 +148,5 @@ module _ (gives : Giving) (conf : Conf) (limits : IsWithinLimits conf) (edges : 
     result = result_held whole;
   }
 
-pub forms_keep_vectors : FormsKeepVectors
-forms_keep_vectors gives conf limits edges s ends vector vectors = record { iterates = holds_vectors gives conf limits edges s ends vector vectors; all = holds_all gives conf limits edges s ends vector vectors }
+pub forms_keep_iterations : FormsKeepIterations
+forms_keep_iterations gives conf limits edges s ends vector vectors = record { iterates = holds_vectors gives conf limits edges s ends vector vectors; all = holds_all gives conf limits edges s ends vector vectors }

@@ -14,7 +14,7 @@ use Rattle.flow.specs.Children.{FollowsChildren}
 use Rattle.flow.specs.Iterates.{iterates_of, changed_of}
 use Rattle.flow.specs.Laws.{AreCountable}
 use Rattle.flow_forms.specs.AsBase.{EndsAsBase}
-use Rattle.flow_forms.specs.Held.{KeepsVectors}
+use Rattle.flow_forms.specs.Held.{KeepsIterations}
 
 -- a run of the block form
 pub record IsBlockRun (conf : Conf) : Type 0 where
@@ -50,7 +50,7 @@ abbrev pub BlockKeepsIterates : Type 0
 BlockKeepsIterates =
     (gives : Giving) → FollowsChildren gives → (conf : Conf) → IsBlockRun conf → (edges : List Edge)
     → AreCountable conf.nodes edges
-    → KeepsVectors gives conf edges (iterates_of conf edges) (block_layout_of conf edges)
+    → KeepsIterations gives conf edges (iterates_of conf edges) (block_layout_of conf edges)
 
 -- ---- edges of a file
 

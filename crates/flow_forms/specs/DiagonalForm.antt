@@ -16,7 +16,7 @@ use Rattle.flow.specs.Children.{FollowsChildren}
 use Rattle.flow.specs.Laws.{AreCountable}
 use Rattle.flow_forms.specs.AsBase.{HasBaseResult}
 use Rattle.flow_forms.specs.Ends.{EndsWith}
-use Rattle.flow_forms.specs.Held.{KeepsVectors}
+use Rattle.flow_forms.specs.Held.{KeepsIterations}
 
 -- a run of the diagonal form, which within the limits is one of components
 pub record IsDiagonalRun (conf : Conf) : Type 0 where
@@ -58,7 +58,7 @@ abbrev pub DiagonalKeepsLabels : Type 0
 DiagonalKeepsLabels =
     (gives : Giving) → FollowsChildren gives → (conf : Conf) → IsDiagonalRun conf → (edges : List Edge)
     → AreCountable conf.nodes edges
-    → KeepsVectors gives conf edges (labels_of conf edges) (diagonal_layout_of conf edges)
+    → KeepsIterations gives conf edges (labels_of conf edges) (diagonal_layout_of conf edges)
 
 -- ---- edges of a file
 

@@ -19,21 +19,21 @@ use Rattle.flow.specs.Laws.{parts_of_numbers}
 -- ---- what is said
 
 -- the line of a vector, and that of a run that is done
-abbrev pub line_of : Conf → Sequence → ℕ → List ℕ
-line_of conf s k = iteration_text k (changed_in s conf.nodes k)
+abbrev pub changes_line : Conf → Sequence → ℕ → List ℕ
+changes_line conf s k = iteration_text k (changed_in s conf.nodes k)
 
-abbrev pub done_of : Conf → Sequence → ℕ → List ℕ
-done_of conf s last =
+abbrev pub last_line : Conf → Sequence → ℕ → List ℕ
+last_line conf s last =
     done_text conf last (changed_in s conf.nodes last == 0) (total_by conf.command s conf.nodes last)
 
 -- what is said after vector k, where this is the last one
 abbrev pub said_after : Conf → Sequence → ℕ → ℕ → List ℕ
 said_after conf s k last =
-    flat_map (line_of conf s) (range_with_len (k + 1) (last - k)) ++ done_of conf s last
+    flat_map (changes_line conf s) (range_with_len (k + 1) (last - k)) ++ last_line conf s last
 
 -- all that a run says that goes on after vector k, or that begins with the first one
 abbrev pub said_of : Conf → Sequence → Option ℕ → ℕ → List ℕ
-said_of conf s None last = line_of conf s 0 ++ said_after conf s 0 last
+said_of conf s None last = changes_line conf s 0 ++ said_after conf s 0 last
 said_of conf s (Some k) last = resumed_text k ++ said_after conf s k last
 
 -- ---- the last iteration

@@ -38,16 +38,16 @@ pub record HoldsAll (conf : Conf) (s : Sequence) (vector : ℕ → List (List �
 
 -- wherever a machine stops, what is kept holds iterations of the form, and where the result is whole, all of
 -- it
-pub record KeepsVectors (gives : Giving) (conf : Conf) (edges : List Edge) (s : Sequence)
+pub record KeepsIterations (gives : Giving) (conf : Conf) (edges : List Edge) (s : Sequence)
     (vector : ℕ → List (List ℕ)) : Type 0 where
   pub iterates : (image : Image) → Kept (mining_of gives conf edges) image → HoldsVectors conf s vector image
   pub all : (image : Image) → Kept (mining_of gives conf edges) image → Has Results image
       → HoldsAll conf s vector image
 
 -- the end of the run and the parts of the vectors decide it, whatever the form
-abbrev pub FormsKeepVectors : Type 0
-FormsKeepVectors =
+abbrev pub FormsKeepIterations : Type 0
+FormsKeepIterations =
     (gives : Giving) (conf : Conf) → IsWithinLimits conf → (edges : List Edge) (s : Sequence)
     → EndsWith gives conf edges s
     → (vector : ℕ → List (List ℕ)) → ((k : ℕ) → flow (mining_of gives conf edges) (Vector k) ≡ vector k)
-    → KeepsVectors gives conf edges s vector
+    → KeepsIterations gives conf edges s vector

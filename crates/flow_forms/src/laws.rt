@@ -6,7 +6,7 @@ ghost use Rattle.flow_forms.specs.DiagonalForm.{DiagonalEndsAsBase, DiagonalFlow
 ghost use Rattle.flow_forms.specs.DiagonalForm.{FileDiagonalEndsAsBase, FileDiagonalFlow};
 ghost use Rattle.flow_forms.specs.Examples.{BlockFlowByExample, BlockRanksByExample, BlocksByExample};
 ghost use Rattle.flow_forms.specs.Examples.{ClosedByExample, DiagonalFlowByExample};
-ghost use Rattle.flow_forms.specs.Held.{FormsKeepVectors};
+ghost use Rattle.flow_forms.specs.Held.{FormsKeepIterations};
 
 use flow_diag::laws::diagonal_vectors_are_labels;
 use gimv_diag::laws::diagonal_ends_at_least;
@@ -18,8 +18,8 @@ pub fn forms_end_as_base()
 {}
 
 /// Each image that is kept of such a run holds whole iterations of its form, and the result of the last one.
-pub fn forms_keep_vectors()
-    ensures { FormsKeepVectors }
+pub fn forms_keep_iterations()
+    ensures { FormsKeepIterations }
 {}
 
 /// Where the children are the bundled ones, each vector of the block form is so many steps, block by block,

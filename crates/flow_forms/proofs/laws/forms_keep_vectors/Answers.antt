@@ -1,5 +1,0 @@
-use Rattle.flow_forms.proofs.Held.{forms_keep_vectors}
-use Rattle.flow_forms.proofs.laws.forms_keep_vectors.Goals as goal
-
-pub returns : goal.returns
-returns c = forms_keep_vectors
