@@ -15,3 +15,4 @@ pub mod Causes
 pub mod CausesUnmade
 pub mod Logging
 pub mod Stored
+pub mod Vectors

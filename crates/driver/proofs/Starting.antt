@@ -99,7 +99,7 @@ one_greatest most j k s first second =
 
 -- ---- what is whole when a run begins is so when it says where it goes on
 
-settled_mark : (place : Place) (s t : State) → IsSettled s t → mark_of place t ≡ mark_of place s
+pub settled_mark : (place : Place) (s t : State) → IsSettled s t → mark_of place t ≡ mark_of place s
 settled_mark place s t settled = ap (λ (h : Held). h.now) (settled (success_of (folder_of place)))
 
 greatest_moved : (most k : ℕ) (s t : State) → ((j : ℕ) → j ≤ k + 1 → j ≤ most → mark_of (Vector j) t ≡ mark_of (Vector j) s) → IsGreatest most s k → IsGreatest most t k

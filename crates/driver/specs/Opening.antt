@@ -1,5 +1,5 @@
 -- How a run opens its work folder.
-use Rattle.std.specs.Prelude.{◌≡◌, ℕ, ◌+◌, ◌^◌, ◌<◌, ◌≤◌, Bool, true, false, ⊤, List, Option, Some, None, IsSome, Result, Ok, Err}
+use Rattle.std.specs.Prelude.{◌≡◌, ℕ, ◌+◌, ◌^◌, ◌<◌, ◌≤◌, nat_le, ◌&&◌, if◌then◌else◌, Bool, true, false, ⊤, List, Option, Some, None, IsSome, Result, Ok, Err}
 use Rattle.peg_base.specs.Names.{Names, under}
 use Rattle.mining.specs.declared.place.Place.{Place}
 use Rattle.mining.specs.declared.place.Place.TheVariants.{Conf, Edges, Results, Vector}
@@ -8,7 +8,8 @@ use Rattle.mining.specs.Between.{IsSure}
 use Rattle.dir_disk.specs.State.{Allows, Content, Fits, Image, State}
 use Rattle.committer.specs.Folders.{fixed}
 use Rattle.committer.specs.Paths.{success_of}
-use Rattle.mining.specs.Flow.{Mining, last_of}
+use Rattle.conf.specs.declared.commands.Command.{Command}
+use Rattle.mining.specs.Flow.{Mining, ends_unchanged, last_of}
 use Rattle.mining.specs.Kept.{Has}
 use Rattle.dir_disk.specs.Streams.{added}
 use Rattle.mining.specs.Iterations.{console, line_at}
@@ -77,6 +78,16 @@ IsFromThere true most state (Some k) = IsGreatest most state k
 IsFromThere false most state None = mark_of (Vector 1) state ≡ None
 IsFromThere true most state None = ⊥
 IsFromThere false most state (Some k) = ⊥
+
+-- the same whatever else is there: none where neither the first iteration nor the second is whole
+abbrev pub IsFromAny : ℕ → State → Option ℕ → Type 0
+IsFromAny most state None = (mark_of (Vector 0) state ≡ None) × (mark_of (Vector 1) state ≡ None)
+IsFromAny most state (Some k) = IsGreatest most state k
+
+-- the first iteration whose vector a run reads: that which it goes on after, where its count matters, else the next one
+abbrev pub first_read : Command → Option ℕ → ℕ
+first_read command None = 0
+first_read command (Some k) = if nat_le 1 k && ends_unchanged command then k else k + 1
 
 -- the line that says where a run goes on
 abbrev pub from_text : Mining → Option ℕ → List ℕ

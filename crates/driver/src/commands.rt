@@ -20,7 +20,8 @@ ghost use Rattle.flow.specs.Held.{HoldsIterates, iterates_console};
 ghost use Rattle.flow.specs.Iterates.{IsLast, changed_of};
 ghost use Rattle.driver.specs.Headline.{Asks, HasWritten, WhereverItStops};
 ghost use Rattle.driver.specs.Logged.{LogsRun, TellsOfOutcome};
-ghost use Rattle.driver.specs.Opening.{HasRun, HasVectors, IsFrom, StaysOne};
+ghost use Rattle.mining.specs.Read.{HasRead};
+ghost use Rattle.driver.specs.Opening.{HasRun, HasVectors, IsFrom, IsFromAny, StaysOne, first_read};
 ghost use Rattle.driver.specs.Plain.{Labels};
 ghost use Rattle.driver.specs.Running.{IsUnmade, bytes_for};
 ghost use Rattle.driver.specs.Causes.{IsOpened, IsRefusal, MakesNone};
@@ -122,6 +123,12 @@ pub fn run<E: Source, S: Site>(
     ensures stored { (conf : Settings) (path : Names) (line : ℕ) → Mean (map string_bytes words.now) conf
         → S.tells → result ≡ Outcome.BadStore path line
         → IsNotAsMade conf (files (S.told site.new)) path line }
+    // Whatever was there and whatever the children write: when it is done, all that it read of its vectors and of its result
+    // was as it is made, and the last line names the last of them.
+    ensures good { (conf : Settings) (k : Option ℕ) → Mean (map string_bytes words.now) conf
+        → is_mining conf.command ≡ true → S.tells
+        → IsFromAny (most_of conf conf.command) (files (S.told site.old)) k → result ≡ Outcome.Done
+        → HasRead conf (first_read conf.command k) (S.said site.new) (files (S.told site.new)) }
     // Where the children are the bundled ones and each image at entry is kept, none is named.
     ensures unblamed { (conf : Settings) (accepted : List Edge) (path : Names) (line : ℕ)
         → Asks (map string_bytes words.now) (E.left edges.old) conf accepted

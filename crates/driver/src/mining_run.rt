@@ -15,7 +15,10 @@ ghost use Rattle.mining.specs.Acked.{Acks};
 ghost use Rattle.mining.specs.Flow.{last_of, mining_of, most_of};
 ghost use Rattle.mining.specs.Iterations.{console};
 ghost use Rattle.mining.specs.Kept.{AllKept, Kept};
-ghost use Rattle.driver.specs.Opening.{HasRun, HasVectors, IsFrom, IsFromThere, KeepsFinished, StandsLater, StaysOne};
+ghost use Rattle.mining.specs.Read.{HasRead};
+ghost use Rattle.driver.specs.Opening.{
+    HasRun, HasVectors, IsFrom, IsFromAny, IsFromThere, KeepsFinished, StandsLater, StaysOne, first_read
+};
 ghost use Rattle.mining.specs.Stops.{IsOfMining};
 ghost use Rattle.driver.specs.Causes.{IsOpened, IsRefusal, MakesNone, outcome_of};
 ghost use Rattle.mining.specs.Failures.{TellsOfAnswer};
@@ -116,6 +119,9 @@ fn go_on<S: Site>(alloc: Global, site: &mut S, conf: &Conf, had_first: bool) -> 
         → Through (Both (KeepsFinished (files (S.told site.old)))) (S.told site.old) (S.told site.new) }
     ensures stored { S.tells → conf.now.form ≡ Base → IsSure At.Matrix (files (S.told site.old))
         → IfErr result (IfBadStore (IsNotAsMade conf.now (files (S.told site.new)))) }
+    ensures read { (k : Option ℕ) → S.tells
+        → IsFromThere had_first (most_of conf.now conf.now.command) (files (S.told site.old)) k
+        → OnOk result (HasRead conf.now (first_read conf.now.command k) (S.said site.new) (files (S.told site.new))) }
 {
     let from = start(alloc, site, conf, had_first)?;
     mine_on(alloc, site, conf, from)
@@ -163,6 +169,9 @@ fn mine_settled<E: Source, S: Site>(
         → Through (Both (KeepsFinished (files (S.told site.old)))) (S.told site.old) (S.told site.new) }
     ensures stored { S.tells → conf.now.form ≡ Base
         → IfErr result (IfBadStore (IsNotAsMade conf.now (files (S.told site.new)))) }
+    ensures good { (k : Option ℕ) → S.tells
+        → IsFromAny (most_of conf.now conf.now.command) (files (S.told site.old)) k
+        → OnOk result (HasRead conf.now (first_read conf.now.command k) (S.said site.new) (files (S.told site.new))) }
 {
     let had_first = has(alloc, site, Place::Vector(0))?;
     make_ready(alloc, site, conf, edges)?;
@@ -220,6 +229,10 @@ pub fn mine<E: Source, S: Site>(
     // A place that is named as bad isn't as it was made.
     ensures stored { S.tells → conf.now.form ≡ Base
         → IfErr result (IfBadStore (IsNotAsMade conf.now (files (S.told site.new)))) }
+    // At Ok all that it read of its vectors and of its result was as it is made.
+    ensures good { (k : Option ℕ) → S.tells
+        → IsFromAny (most_of conf.now conf.now.command) (files (S.told site.old)) k
+        → OnOk result (HasRead conf.now (first_read conf.now.command k) (S.said site.new) (files (S.told site.new))) }
 {
     settle_all(alloc, site)?;
     mine_settled(alloc, site, conf, edges)

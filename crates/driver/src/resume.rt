@@ -1,4 +1,4 @@
-ghost use Rattle.std.specs.Prelude.{◌≡◌, ◌+◌, ◌<◌, ◌≤◌, [], ℕ, List, None, Option, false, true, IfOk, OnOk, IfErr, unwrap_or};
+ghost use Rattle.std.specs.Prelude.{◌≡◌, ◌+◌, ◌<◌, ◌≤◌, [], ℕ, List, None, Option, Some, false, true, IfOk, OnOk, IfErr, unwrap_or};
 ghost use Rattle.dir_disk.specs.Causes.{HasCause};
 ghost use Rattle.dir_disk.specs.Moments.{Both, EachImage, IsFresh, Through, Told, files};
 ghost use Rattle.dir_disk.specs.Says.{Say};
@@ -10,7 +10,8 @@ ghost use Rattle.conf.specs.Limits.{IsWithinLimits};
 ghost use Rattle.mining.specs.declared.place.Place.TheVariants as At;
 ghost use Rattle.mining.specs.Places.{folder_of};
 ghost use Rattle.mining.specs.Between.{AllFirm, IsSure, KeepsWhole};
-ghost use Rattle.mining.specs.Flow.{mining_of, most_of};
+ghost use Rattle.mining.specs.Flow.{ends_unchanged, mining_of, most_of};
+ghost use Rattle.mining.specs.Read.{AreVectorsRead, IsVectorRead};
 ghost use Rattle.mining.specs.Kept.{AllKept, Kept};
 ghost use Rattle.report.specs.Lines.{resumed_text};
 ghost use Rattle.mining.specs.Acked.{Acks};
@@ -18,7 +19,7 @@ ghost use Rattle.mining.specs.Making.{IsAsAt};
 ghost use Rattle.mining.specs.Iterations.{IsAt, line_at};
 ghost use Rattle.mining.specs.Stops.{IsOfJobs, IsOfMining};
 ghost use Rattle.mining.specs.Failures.{IsOfNoTask};
-ghost use Rattle.driver.specs.Opening.{IsFromThere, IsGreatest, from_text, mark_of};
+ghost use Rattle.driver.specs.Opening.{IsFromThere, IsGreatest, first_read, from_text, mark_of};
 ghost use Rattle.mining.specs.Stored.{IfBadStore, IsNoBadStore, IsNotAsMade};
 
 use conf::{Command, Conf};
@@ -113,6 +114,8 @@ fn read_count<S: Site>(alloc: Global, site: &mut S, conf: &Conf, k: u32) -> Resu
     ensures err { IfErr result IsOfJobs }
     ensures stored { S.tells → IsSure (At.Vector k) (files (S.told site.old))
         → IfErr result (IfBadStore (IsNotAsMade conf.now (files (S.told site.new)))) }
+    ensures read { S.tells → IsSure (At.Vector k) (files (S.told site.old)) → ends_unchanged conf.now.command ≡ true
+        → OnOk result (IsVectorRead conf.now k (files (S.told site.new))) }
 {
     match conf.command {
         Command::Plain | Command::PageRank => Ok(1),
@@ -148,6 +151,8 @@ fn take_up<S: Site>(alloc: Global, site: &mut S, conf: &Conf, k: u32) -> Result<
     ensures err { IfErr result IsOfJobs }
     ensures stored { S.tells → IsSure (At.Vector k) (files (S.told site.old))
         → IfErr result (IfBadStore (IsNotAsMade conf.now (files (S.told site.new)))) }
+    ensures read { S.tells → IsSure (At.Vector k) (files (S.told site.old)) → ends_unchanged conf.now.command ≡ true
+        → OnOk result (IsVectorRead conf.now k (files (S.told site.new))) }
 {
     let changed = read_count(alloc, site, conf, k)?;
     drop_messages(alloc, site, k)?;
@@ -181,6 +186,9 @@ fn take_up_any<S: Site>(alloc: Global, site: &mut S, conf: &Conf, k: u32) -> Res
     ensures err { IfErr result IsOfJobs }
     ensures stored { S.tells → IsSure (At.Vector k) (files (S.told site.old))
         → IfErr result (IfBadStore (IsNotAsMade conf.now (files (S.told site.new)))) }
+    ensures read { S.tells → IsSure (At.Vector k) (files (S.told site.old)) → 1 ≤ k
+        → ends_unchanged conf.now.command ≡ true
+        → OnOk result (IsVectorRead conf.now k (files (S.told site.new))) }
 {
     if k == 0 {
         return Ok(Reached { k, changed: 1 });
@@ -219,6 +227,9 @@ fn resume<S: Site>(alloc: Global, site: &mut S, conf: &Conf, k: u32) -> Result<R
     ensures err { IfErr result IsOfMining }
     ensures stored { S.tells → IsSure (At.Vector k) (files (S.told site.old))
         → IfErr result (IfBadStore (IsNotAsMade conf.now (files (S.told site.new)))) }
+    ensures read { S.tells → IsSure (At.Vector k) (files (S.told site.old)) → 1 ≤ k
+        → ends_unchanged conf.now.command ≡ true
+        → OnOk result (IsVectorRead conf.now k (files (S.told site.new))) }
 {
     say_resumed(alloc, site, k)?;
     take_up_any(alloc, site, conf, k)
@@ -251,6 +262,8 @@ fn begin<S: Site>(alloc: Global, site: &mut S, conf: &Conf) -> Result<Reached, S
     ensures err { IfErr result IsOfMining }
     ensures stored { S.tells → IsSure (At.Vector 0) (files (S.told site.old))
         → IfErr result (IfBadStore (IsNotAsMade conf.now (files (S.told site.new)))) }
+    ensures read { S.tells → IsSure (At.Vector 0) (files (S.told site.old))
+        → OnOk result (IsVectorRead conf.now 0 (files (S.told site.new))) }
 {
     let changed = count_changed(alloc, site, conf, 0)?;
     say_iteration(alloc, site, 0, changed)?;
@@ -339,6 +352,8 @@ fn start_afresh<S: Site>(alloc: Global, site: &mut S, conf: &Conf) -> Result<Rea
     ensures err { IfErr result IsOfMining }
     ensures stored { S.tells
         → IfErr result (IfBadStore (IsNotAsMade conf.now (files (S.told site.new)))) }
+    ensures read { S.tells → mark_of (At.Vector 1) (files (S.told site.old)) ≡ None
+        → IfOk result (λ reached. AreVectorsRead conf.now 0 reached.k (files (S.told site.new))) }
 {
     let first = begin(alloc, site, conf)?;
     after_first(alloc, site, conf, first)
@@ -380,6 +395,9 @@ fn start_again<S: Site>(alloc: Global, site: &mut S, conf: &Conf) -> Result<Reac
     ensures err { IfErr result IsOfMining }
     ensures stored { S.tells
         → IfErr result (IfBadStore (IsNotAsMade conf.now (files (S.told site.new)))) }
+    ensures read { (k : ℕ) → S.tells → IsGreatest (most_of conf.now conf.now.command) (files (S.told site.old)) k
+        → IfOk result (λ reached.
+        AreVectorsRead conf.now (first_read conf.now.command (Some k)) reached.k (files (S.told site.new))) }
 {
     let k = reached(alloc, site, most_of(conf))?;
     resume(alloc, site, conf, k)
@@ -432,6 +450,11 @@ pub fn start<S: Site>(
     ensures err { IfErr result IsOfMining }
     ensures stored { S.tells
         → IfErr result (IfBadStore (IsNotAsMade conf.now (files (S.told site.new)))) }
+    // The vector that it goes on after is read where its count matters, and that of the first iteration where it begins.
+    ensures read { (k : Option ℕ) → S.tells
+        → IsFromThere had_first (most_of conf.now conf.now.command) (files (S.told site.old)) k
+        → IfOk result (λ reached.
+        AreVectorsRead conf.now (first_read conf.now.command k) reached.k (files (S.told site.new))) }
 {
     if had_first {
         start_again(alloc, site, conf)

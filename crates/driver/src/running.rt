@@ -16,7 +16,8 @@ ghost use Rattle.mining.specs.Acked.{Acks};
 ghost use Rattle.mining.specs.Flow.{last_of, mining_of, most_of};
 ghost use Rattle.mining.specs.Iterations.{console};
 ghost use Rattle.mining.specs.Kept.{AllKept, Kept};
-ghost use Rattle.driver.specs.Opening.{HasRun, HasVectors, IsFrom, StaysOne};
+ghost use Rattle.mining.specs.Read.{HasRead};
+ghost use Rattle.driver.specs.Opening.{HasRun, HasVectors, IsFrom, IsFromAny, StaysOne, first_read};
 ghost use Rattle.driver.specs.Plain.{Labels};
 ghost use Rattle.driver.specs.Running.{IsUnmade, bytes_for};
 ghost use Rattle.driver.specs.Causes.{IsOpened, IsRefusal, MakesNone};
@@ -92,6 +93,9 @@ fn run_mining<E: Source, S: Site>(
     ensures stays { S.tells → StaysOne (files (S.told site.old)) (files (S.told site.new)) }
     ensures stored { (path : Names) (line : ℕ) → S.tells → conf.now.form ≡ Base
         → result ≡ Outcome.BadStore path line → IsNotAsMade conf.now (files (S.told site.new)) path line }
+    ensures good { (k : Option ℕ) → S.tells
+        → IsFromAny (most_of conf.now conf.now.command) (files (S.told site.old)) k → result ≡ Outcome.Done
+        → HasRead conf.now (first_read conf.now.command k) (S.said site.new) (files (S.told site.new)) }
 {
     match mine(alloc, site, conf, edges) {
         Ok(()) => Outcome::Done,
@@ -143,6 +147,9 @@ fn run_over<E: Source, S: Site>(alloc: Global, conf: &Conf, edges: &mut E, site:
     ensures stays { S.tells → StaysOne (files (S.told site.old)) (files (S.told site.new)) }
     ensures stored { (path : Names) (line : ℕ) → S.tells → conf.now.form ≡ Base
         → result ≡ Outcome.BadStore path line → IsNotAsMade conf.now (files (S.told site.new)) path line }
+    ensures good { is_mining conf.now.command ≡ true → (k : Option ℕ) → S.tells
+        → IsFromAny (most_of conf.now conf.now.command) (files (S.told site.old)) k → result ≡ Outcome.Done
+        → HasRead conf.now (first_read conf.now.command k) (S.said site.new) (files (S.told site.new)) }
 {
     match conf.command {
         Command::Plain => label_nodes(alloc, conf.nodes, edges, site),
@@ -236,6 +243,11 @@ pub fn carry_out<E: Source, S: Site>(
     ensures stored { (conf : Settings) (path : Names) (line : ℕ) → Mean (map string_bytes words.now) conf
         → S.tells → result ≡ Outcome.BadStore path line
         → IsNotAsMade conf (files (S.told site.new)) path line }
+    // When it is done, all that it read of its vectors and of its result was as it is made.
+    ensures good { (conf : Settings) (k : Option ℕ) → Mean (map string_bytes words.now) conf
+        → is_mining conf.command ≡ true → S.tells
+        → IsFromAny (most_of conf conf.command) (files (S.told site.old)) k → result ≡ Outcome.Done
+        → HasRead conf (first_read conf.command k) (S.said site.new) (files (S.told site.new)) }
 {
     meanings_are_within_limits();
     let conf = match read_words(words) {

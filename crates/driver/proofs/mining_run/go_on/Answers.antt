@@ -32,6 +32,9 @@ use Rattle.mining.specs.Between.{IsSure}
 use Rattle.mining.specs.declared.place.Place.TheVariants.{Matrix}
 use Rattle.mining.proofs.EnsureLemmas.{stays_after, sure_kept}
 use Rattle.mining.proofs.StoredLemmas.{err_is}
+use Rattle.driver.specs.Opening.{first_read}
+use Rattle.std.proofs.Common.{◌^◌, ◌<◌}
+use Rattle.driver.proofs.Vectors.{joined}
 use Rattle.driver.proofs.mining_run.go_on.Goals as goal
 
 pub returns-in_err-from-clause-kept : goal.returns-in_err-from-clause-kept
@@ -128,3 +131,10 @@ returns-clause-stored g c =
     let e : Told = g.S.Dir.told c.start.new.site in
     let matrix = sure_kept Matrix (files d) (files e) tt refl (stays_after d e (c.start.ensures.stays tells)) sure in
     c.mine_on.ensures.stored tells (ap is_clustered form) (subst (λ (f : Form). IsSure (matrix_for f) (files e)) (sym form) matrix)
+
+pub returns-clause-read : goal.returns-clause-read
+returns-clause-read g c =
+    λ k tells from.
+    let conf = c.args.conf.now in
+    let few : c.in_ok-from.from.k < 10 ^ 10 = (let small = most_small conf c.requires.limits in let most = c.in_ok-from.ensures.few in omega (arith, small, most)) in
+    joined conf (first_read conf.command k) c.in_ok-from.from.k (g.S.Console.said c.mine_on.new.site) (g.S.Dir.told c.start.new.site) (g.S.Dir.told c.mine_on.new.site) c.mine_on.result few (c.mine_on.ensures.stays tells) (c.in_ok-from.ensures.read k tells from) (c.mine_on.ensures.read tells)

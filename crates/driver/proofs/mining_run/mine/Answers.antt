@@ -25,6 +25,7 @@ use Rattle.std.proofs.Common.{List, ℕ}
 use Rattle.driver.specs.declared.outcome.Outcome.{Outcome}
 use Rattle.mining.specs.Stored.{IsNotAsMade}
 use Rattle.driver.proofs.Stored.{exits_disk}
+use Rattle.driver.proofs.Vectors.{any_settled}
 use Rattle.driver.proofs.mining_run.mine.Goals as goal
 
 pub returns-in_err-settle_all-clause-unstarted : goal.returns-in_err-settle_all-clause-unstarted
@@ -127,3 +128,7 @@ returns-clause-answers g c =
 pub returns-in_err-settle_all-clause-stored : goal.returns-in_err-settle_all-clause-stored
 returns-in_err-settle_all-clause-stored g c =
     λ tells form. exits_disk (IsNotAsMade c.args.conf.now (files (g.S.Dir.told c.settle_all.new.site))) c.from_residual.result c.in_err-settle_all.field-0.0 c.from_residual.ensures.1 c.in_err-settle_all.ensures.of_disk
+
+pub returns-clause-good : goal.returns-clause-good
+returns-clause-good g c =
+    λ k tells from. c.mine_settled.ensures.good k tells (any_settled (most_of c.args.conf.now c.args.conf.now.command) (files (g.S.Dir.told c.args.site.now)) (files (g.S.Dir.told c.settle_all.new.site)) k (c.in_ok-settle_all.ensures.settled tells) from)

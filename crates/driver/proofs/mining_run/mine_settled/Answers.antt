@@ -39,6 +39,8 @@ use Rattle.driver.specs.declared.outcome.Outcome.{Outcome}
 use Rattle.mining.specs.Stored.{IsNotAsMade}
 use Rattle.mining.proofs.StoredLemmas.{err_is}
 use Rattle.driver.proofs.Stored.{exits_disk}
+use Rattle.driver.specs.Opening.{IsFromAny}
+use Rattle.driver.proofs.Vectors.{any_there}
 use Rattle.driver.proofs.mining_run.mine_settled.Goals as goal
 
 pub returns-in_err-had_first-clause-unstarted : goal.returns-in_err-had_first-clause-unstarted
@@ -189,3 +191,13 @@ returns-in_err-make_ready-clause-stored g c =
 pub returns-clause-stored : goal.returns-clause-stored
 returns-clause-stored g c =
     λ tells form. c.go_on.ensures.stored tells form (c.in_ok-make_ready.ensures.matrix tells)
+
+pub returns-clause-good : goal.returns-clause-good
+returns-clause-good g c =
+    λ k tells from.
+    let most = most_of c.args.conf.now c.args.conf.now.command in
+    let d : Told = g.S.Dir.told c.args.site.now in
+    let e : Told = g.S.Dir.told c.has.new.site in
+    let f : Told = g.S.Dir.told c.make_ready.new.site in
+    let same = same_state d e (c.has.ensures.stands tells) in
+    c.go_on.ensures.read k tells (any_there c.in_ok-had_first.had_first most (files e) (files f) k (most_small c.args.conf.now c.requires.limits) (λ q. g.met.S.Dir.now_allowed c.has.new.site q tells) (λ q. g.met.S.Dir.now_allowed c.make_ready.new.site q tells) (c.in_ok-had_first.ensures.yes tells) (c.in_ok-had_first.ensures.no tells) (c.in_ok-make_ready.ensures.sure tells) (c.make_ready.ensures.later tells) (subst (λ (s : State). IsFromAny most s k) (sym same) from))

@@ -11,6 +11,13 @@ use Rattle.driver.proofs.Settling.{same_keeps}
 use Rattle.driver.proofs.TakenUp.{at_reached, sure_reached}
 use Rattle.mining.specs.Stored.{IsNotAsMade}
 use Rattle.driver.proofs.Stored.{exits_none}
+use Rattle.std.proofs.Common.{◌≡◌, ◌≤◌, None, rules}
+use Rattle.dir_disk.specs.State.{State}
+use Rattle.dir_disk.specs.Moments.{Told}
+use Rattle.committer.proofs.FolderLemmas.{some_is_there}
+use Rattle.mining.proofs.Wholes.{same_state}
+use Rattle.driver.specs.Opening.{mark_of}
+use Rattle.driver.proofs.Starting.{sure_marked}
 use Rattle.driver.proofs.resume.after_first.Goals as goal
 
 pub returns-in_err-k-clause-stays : goal.returns-in_err-k-clause-stays
@@ -64,3 +71,12 @@ returns-in_err-k-clause-stored g c =
 pub returns-clause-stored : goal.returns-clause-stored
 returns-clause-stored g c =
     λ tells. c.take_up.ensures.stored tells (c.in_ok-k.ensures.sure tells c.in_ok-k.k (omega arith))
+
+pub returns-clause-is : goal.returns-clause-is
+returns-clause-is g c =
+    λ tells none.
+    let d : Told = g.S.Dir.told c.args.site.now in
+    let e : Told = g.S.Dir.told c.reached.new.site in
+    let none_then : mark_of (Vector 1) (files e) ≡ None = subst (λ (s : State). mark_of (Vector 1) s ≡ None) (sym (same_state d e (c.reached.ensures.stands tells))) none in
+    let some : 1 ≤ c.in_ok-k.k = search rules in
+    absurd (some_is_there (mark_of (Vector 1) (files e)) (sure_marked (Vector 1) (files e) (λ q. g.met.S.Dir.now_allowed c.reached.new.site q tells) (c.in_ok-k.ensures.sure tells 1 some)) none_then)

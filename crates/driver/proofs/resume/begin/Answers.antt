@@ -12,6 +12,8 @@ use Rattle.driver.proofs.TakenUp.{first_line}
 use Rattle.mining.specs.Stored.{IsNotAsMade}
 use Rattle.mining.proofs.StoredLemmas.{err_is}
 use Rattle.driver.proofs.Stored.{exits_none}
+use Rattle.std.proofs.Common.{sym}
+use Rattle.mining.specs.Read.{IsVectorRead}
 use Rattle.driver.proofs.resume.begin.Goals as goal
 
 pub returns-in_err-changed-clause-acked : goal.returns-in_err-changed-clause-acked
@@ -63,3 +65,7 @@ returns-in_err-changed-clause-stored g c =
 pub returns-in_err-say_iteration-clause-stored : goal.returns-in_err-say_iteration-clause-stored
 returns-in_err-say_iteration-clause-stored g c =
     λ tells sure. exits_none (IsNotAsMade c.args.conf.now (files (g.S.Dir.told c.say_iteration.new.site))) c.from_residual-in_err-say_iteration.result c.in_err-say_iteration.field-0.0 c.from_residual-in_err-say_iteration.ensures.1 c.in_err-say_iteration.ensures.no_store
+
+pub returns-clause-read : goal.returns-clause-read
+returns-clause-read g c =
+    λ tells sure. subst (λ (t : Told). IsVectorRead c.args.conf.now 0 (files t)) (sym (c.say_iteration.ensures.told tells)) (c.in_ok-changed.ensures.read tells sure)

@@ -6,6 +6,9 @@ use Rattle.mining.specs.Table.{part_paths}
 use Rattle.job.specs.Inputs.{bytes_at_each}
 use Rattle.mining.proofs.DueLemmas.{count_is, if_ok}
 use Rattle.driver.proofs.TakenUp.{at_counted}
+use Rattle.std.proofs.Common.{ap}
+use Rattle.std.proofs.lemmas.Bool.{false≢true}
+use Rattle.mining.specs.Flow.{ends_unchanged}
 use Rattle.driver.proofs.resume.read_count.Goals as goal
 
 pub returns-in-Hcc-clause-at : goal.returns-in-Hcc-clause-at
@@ -21,3 +24,6 @@ returns-in-Hcc-clause-stored g c =
     λ tells sure.
     let few : c.args.k < 10 ^ 10 = (let most = c.requires.few in omega (arith, most)) in
     c.count_changed.ensures.stored tells few sure
+
+pub returns-in-Hcc-clause-read : goal.returns-in-Hcc-clause-read
+returns-in-Hcc-clause-read g c = λ tells sure ends. c.count_changed.ensures.read tells sure

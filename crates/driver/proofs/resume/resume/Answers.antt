@@ -42,3 +42,7 @@ returns-in_err-say_resumed-clause-stored g c =
 pub returns-clause-stored : goal.returns-clause-stored
 returns-clause-stored g c =
     λ tells sure. c.take_up_any.ensures.stored tells (subst (λ (t : Told). IsSure (Vector c.args.k) (files t)) (sym (c.say_resumed.ensures.told tells)) sure)
+
+pub returns-clause-read : goal.returns-clause-read
+returns-clause-read g c =
+    λ tells sure. c.take_up_any.ensures.read tells (subst (λ (t : Told). IsSure (Vector c.args.k) (files t)) (sym (c.say_resumed.ensures.told tells)) sure)

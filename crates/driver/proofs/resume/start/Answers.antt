@@ -3,8 +3,9 @@ use Rattle.std.specs.Prelude.{IfOk, OnOk, unwrap_or}
 use Rattle.dir_disk.specs.Moments.{files}
 use Rattle.dir_disk.specs.Streams.{AddsPart, added}
 use Rattle.mining.specs.Flow.{Mining, mining_of, most_of}
-use Rattle.driver.specs.Opening.{IsFromThere, from_text}
+use Rattle.driver.specs.Opening.{IsFromThere, first_read, from_text}
 use Rattle.driver.proofs.Starting.{if_afresh, if_again}
+use Rattle.mining.specs.Read.{AreVectorsRead}
 use Rattle.driver.proofs.resume.start.Goals as goal
 
 pub returns-then-had_first-clause-is : goal.returns-then-had_first-clause-is
@@ -38,3 +39,11 @@ returns-else-had_first-clause-part g c =
     λ edges k tells kept from.
     let mining : Mining = mining_of g.S.Site.gives c.args.conf.now edges in
     if_afresh (most_of c.args.conf.now c.args.conf.now.command) (files (g.S.Dir.told c.args.site.now)) k (λ o. AddsPart (g.S.Console.said c.args.site.now) (g.S.Console.said c.start_afresh.new.site) (from_text mining o)) (λ none. c.start_afresh.ensures.part edges tells kept) (subst (λ (had : Bool). IsFromThere had (most_of c.args.conf.now c.args.conf.now.command) (files (g.S.Dir.told c.args.site.now)) k) c.if-had_first.false from)
+
+pub returns-then-had_first-clause-read : goal.returns-then-had_first-clause-read
+returns-then-had_first-clause-read g c =
+    λ k tells from. if_again (most_of c.args.conf.now c.args.conf.now.command) (files (g.S.Dir.told c.args.site.now)) k (λ o. IfOk c.start_again.result (λ reached. AreVectorsRead c.args.conf.now (first_read c.args.conf.now.command o) reached.k (files (g.S.Dir.told c.start_again.new.site)))) (λ j greatest. c.start_again.ensures.read j tells greatest) (subst (λ (had : Bool). IsFromThere had (most_of c.args.conf.now c.args.conf.now.command) (files (g.S.Dir.told c.args.site.now)) k) c.if-had_first.true from)
+
+pub returns-else-had_first-clause-read : goal.returns-else-had_first-clause-read
+returns-else-had_first-clause-read g c =
+    λ k tells from. if_afresh (most_of c.args.conf.now c.args.conf.now.command) (files (g.S.Dir.told c.args.site.now)) k (λ o. IfOk c.start_afresh.result (λ reached. AreVectorsRead c.args.conf.now (first_read c.args.conf.now.command o) reached.k (files (g.S.Dir.told c.start_afresh.new.site)))) (λ none. c.start_afresh.ensures.read tells none) (subst (λ (had : Bool). IsFromThere had (most_of c.args.conf.now c.args.conf.now.command) (files (g.S.Dir.told c.args.site.now)) k) c.if-had_first.false from)

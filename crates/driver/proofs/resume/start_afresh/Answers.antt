@@ -1,6 +1,6 @@
 use Rattle.std.proofs.Common.{◌≡◌, ◌∙◌, ℕ, List, sym, ap, subst}
 use Rattle.std.specs.Prelude.{Option}
-use Rattle.dir_disk.specs.Moments.{EachImage, Through}
+use Rattle.dir_disk.specs.Moments.{EachImage, Through, Told}
 use Rattle.dir_disk.specs.Streams.{AddsPart, added}
 use Rattle.dir_disk.proofs.Through.{then_goes}
 use Rattle.committer.specs.Paths.{success_of}
@@ -18,6 +18,8 @@ use Rattle.driver.proofs.Starting.{looked_firm, looked_sure}
 use Rattle.dir_disk.specs.Moments.{files}
 use Rattle.mining.specs.Stored.{IsNotAsMade}
 use Rattle.mining.proofs.StoredLemmas.{err_is}
+use Rattle.std.proofs.Common.{arith}
+use Rattle.driver.proofs.Vectors.{afresh_read, read_on}
 use Rattle.driver.proofs.resume.start_afresh.Goals as goal
 
 pub after_first-requires-clause-firm : goal.after_first-requires-clause-firm
@@ -85,3 +87,12 @@ returns-clause-part g c =
 pub returns-in_err-first-clause-stored : goal.returns-in_err-first-clause-stored
 returns-in_err-first-clause-stored g c =
     λ tells. err_is (IsNotAsMade c.args.conf.now (files (g.S.Dir.told c.begin.new.site))) c.from_residual.result c.in_err-first.field-0.0 c.from_residual.ensures.1 (c.in_err-first.ensures.stored tells (c.requires.sure tells))
+
+pub returns-clause-read : goal.returns-clause-read
+returns-clause-read g c =
+    λ tells none.
+    let d : Told = g.S.Dir.told c.args.site.now in
+    let e : Told = g.S.Dir.told c.begin.new.site in
+    let f : Told = g.S.Dir.told c.after_first.new.site in
+    let none_then = ap (λ (h : Held). h.now) (same_after d e (c.begin.ensures.stands tells) (success_of (folder_of (Vector 1)))) ∙ none in
+    afresh_read c.args.conf.now (files f) c.after_first.result (c.after_first.ensures.is tells none_then) (read_on c.args.conf.now 0 e f c.after_first.result (omega arith) (c.after_first.ensures.stays tells) (c.in_ok-first.ensures.read tells (c.requires.sure tells)))

@@ -19,6 +19,7 @@ use Rattle.driver.specs.Opening.{IsGreatest}
 use Rattle.driver.proofs.Starting.{nothing_part, one_greatest, reached_greatest}
 use Rattle.mining.specs.Stored.{IsNotAsMade}
 use Rattle.driver.proofs.Stored.{exits_none}
+use Rattle.driver.proofs.Vectors.{again_read}
 use Rattle.driver.proofs.resume.start_again.Goals as goal
 
 pub returns-clause-sure : goal.returns-clause-sure
@@ -114,3 +115,15 @@ returns-in_err-k-clause-stored g c =
 pub returns-clause-stored : goal.returns-clause-stored
 returns-clause-stored g c =
     λ tells. c.resume.ensures.stored tells (c.in_ok-k.ensures.sure tells c.in_ok-k.k (omega arith))
+
+pub returns-clause-read : goal.returns-clause-read
+returns-clause-read g c =
+    λ k tells greatest.
+    let d : Told = (g.S.Dir.told c.args.site.now) in
+    let e : Told = (g.S.Dir.told c.reached.new.site) in
+    let same = same_state d e (c.reached.ensures.stands tells) in
+    let most = most_of c.args.conf.now c.args.conf.now.command in
+    let bound : c.in_ok-k.k ≤ most = (let few = c.in_ok-k.ensures.few in let is = c.most_of.ensures in omega (arith, few, is)) in
+    let found : IsGreatest most (files e) c.in_ok-k.k = reached_greatest most c.in_ok-k.k (files e) (λ q. g.met.S.Dir.now_allowed c.reached.new.site q tells) bound (c.in_ok-k.ensures.sure tells) (λ less. c.in_ok-k.ensures.no_more tells (let is = c.most_of.ensures in omega (arith, less, is))) in
+    let one : c.in_ok-k.k ≡ k = one_greatest most c.in_ok-k.k k (files e) found (subst (λ (s : State). IsGreatest most s k) (sym same) greatest) in
+    again_read c.args.conf.now c.in_ok-k.k k (files (g.S.Dir.told c.resume.new.site)) c.resume.result one c.resume.ensures.is (c.resume.ensures.read tells (c.in_ok-k.ensures.sure tells c.in_ok-k.k (omega arith)))

@@ -6,6 +6,8 @@ use Rattle.dir_disk.specs.Moments.{files}
 use Rattle.mining.specs.Stored.{IsNotAsMade}
 use Rattle.mining.proofs.StoredLemmas.{err_is}
 use Rattle.driver.proofs.Stored.{exits_none}
+use Rattle.mining.proofs.EnsureLemmas.{stays_after}
+use Rattle.mining.proofs.ReadLemmas.{vector_stays}
 use Rattle.driver.proofs.resume.take_up.Goals as goal
 
 pub returns-in_err-changed-clause-stays : goal.returns-in_err-changed-clause-stays
@@ -45,3 +47,9 @@ returns-in_err-changed-clause-stored g c =
 pub returns-in_err-drop_messages-clause-stored : goal.returns-in_err-drop_messages-clause-stored
 returns-in_err-drop_messages-clause-stored g c =
     λ tells sure. exits_none (IsNotAsMade c.args.conf.now (files (g.S.Dir.told c.drop_messages.new.site))) c.from_residual-in_err-drop_messages.result c.in_err-drop_messages.field-0.0 c.from_residual-in_err-drop_messages.ensures.1 c.in_err-drop_messages.ensures.no_store
+
+pub returns-clause-read : goal.returns-clause-read
+returns-clause-read g c =
+    λ tells sure ends.
+    let few : c.args.k < 10 ^ 10 = (let most = c.requires.few in omega (arith, most)) in
+    vector_stays c.args.conf.now c.args.k (files (g.S.Dir.told c.read_count.new.site)) (files (g.S.Dir.told c.drop_messages.new.site)) few (stays_after (g.S.Dir.told c.read_count.new.site) (g.S.Dir.told c.drop_messages.new.site) (c.drop_messages.ensures.stays tells)) (c.in_ok-changed.ensures.read tells sure ends)

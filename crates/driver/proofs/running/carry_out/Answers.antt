@@ -16,6 +16,10 @@ use Rattle.dir_disk.specs.Moments.{files}
 use Rattle.mining.specs.Stored.{IsNotAsMade}
 use Rattle.std.proofs.Common.{rules}
 use Rattle.conf.specs.declared.commands.Form.TheVariants.{Base}
+use Rattle.mining.specs.Flow.{most_of}
+use Rattle.mining.specs.Read.{HasRead}
+use Rattle.driver.specs.Opening.{IsFromAny, first_read}
+use Rattle.driver.specs.declared.outcome.Outcome.TheVariants.{Done}
 use Rattle.driver.proofs.running.carry_out.Goals as goal
 
 pub returns-in-Err-clause-opened : goal.returns-in-Err-clause-opened
@@ -137,3 +141,11 @@ returns-in-None-clause-stored g c =
     λ conf path line mean tells is.
     let form : c.in-Ok.conf.form ≡ Base = search rules in
     subst (λ (read : Settings). IsNotAsMade read (files (g.S.Dir.told c.run_over-in-None.new.site)) path line) (mean_one (map string_bytes c.args.words.now) c.in-Ok.conf conf c.in-Ok.ensures.accepted mean) (c.run_over-in-None.ensures.stored path line tells form is)
+
+pub returns-in-Some-clause-good : goal.returns-in-Some-clause-good
+returns-in-Some-clause-good g c =
+    λ conf k mean. subst (λ (read : Settings). is_mining read.command ≡ true → g.S.Dir.tells → IsFromAny (most_of read read.command) (files (g.S.Dir.told c.args.site.now)) k → c.run_over.result ≡ Done → HasRead read (first_read read.command k) (g.S.Console.said c.run_over.new.site) (files (g.S.Dir.told c.run_over.new.site))) (mean_one (map string_bytes c.args.words.now) c.in-Ok.conf conf c.in-Ok.ensures.accepted mean) (λ mines tells from is. c.run_over.ensures.good mines k tells from is)
+
+pub returns-in-None-clause-good : goal.returns-in-None-clause-good
+returns-in-None-clause-good g c =
+    λ conf k mean. subst (λ (read : Settings). is_mining read.command ≡ true → g.S.Dir.tells → IsFromAny (most_of read read.command) (files (g.S.Dir.told c.args.site.now)) k → c.run_over-in-None.result ≡ Done → HasRead read (first_read read.command k) (g.S.Console.said c.run_over-in-None.new.site) (files (g.S.Dir.told c.run_over-in-None.new.site))) (mean_one (map string_bytes c.args.words.now) c.in-Ok.conf conf c.in-Ok.ensures.accepted mean) (λ mines tells from is. c.run_over-in-None.ensures.good mines k tells from is)

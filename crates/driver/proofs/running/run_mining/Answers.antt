@@ -55,3 +55,10 @@ returns-in-Err-clause-answers g c =
 pub returns-in-Err-clause-stored : goal.returns-in-Err-clause-stored
 returns-in-Err-clause-stored g c =
     λ path line tells form is. outcome_names (IsNotAsMade c.args.conf.now (files (g.S.Dir.told c.mine.new.site))) c.in-Err.stop path line (c.in-Err.ensures.stored tells form) (sym c.into.ensures ∙ is)
+
+pub returns-in-Ok-clause-good : goal.returns-in-Ok-clause-good
+returns-in-Ok-clause-good g c = λ k tells from is. c.in-Ok.ensures.good k tells from
+
+pub returns-in-Err-clause-good : goal.returns-in-Err-clause-good
+returns-in-Err-clause-good g c =
+    λ k tells from is. absurd (not_done c.in-Err.stop (sym c.into.ensures ∙ is))

@@ -73,3 +73,7 @@ returns-in_default-clause-idle g c =
 pub returns-in-Plain-clause-stored : goal.returns-in-Plain-clause-stored
 returns-in-Plain-clause-stored g c =
     λ path line tells form is. absurd (plain_names_none c.label_nodes.result path line c.label_nodes.ensures.own is)
+
+pub returns-in-Plain-clause-good : goal.returns-in-Plain-clause-good
+returns-in-Plain-clause-good g c =
+    λ mines. absurd (false≢true (sym (ap is_mining c.in-Plain.is) ∙ mines))
