@@ -1,23 +1,21 @@
 -- What a run reads of its vectors, between the calls of the driver.
 use Rattle.std.proofs.Common.{◌≡◌, ℕ, ◌+◌, ◌^◌, ◌<◌, ◌≤◌, Bool, true, false, ⊎_elim, List, None, Some, refl, sym, ◌∙◌, ap, subst, arith}
-use Rattle.std.specs.Prelude.{◌&&◌, nat_le, if◌then◌else◌, Option, Result, Ok, Err, IfOk, OnOk, IsSome}
+use Rattle.std.specs.Prelude.{◌&&◌, nat_le, if◌then◌else◌, Option, Result, Ok, Err, IfOk, OnOk}
 use Rattle.std.proofs.lemmas.Bool.{cases_lt, leb-true}
 use Rattle.dir_disk.specs.State.{Held, IsSound, State}
 use Rattle.dir_disk.specs.Moments.{Both, Through, Told, files}
 use Rattle.committer.specs.Folders.{IsUnmarked}
 use Rattle.committer.proofs.FolderLemmas.{some_is_there}
-use Rattle.conf.specs.declared.commands.Command.{Command}
 use Rattle.conf.specs.declared.reading.Conf.{Conf as Settings}
 use Rattle.mining.specs.declared.place.Place.TheVariants.{Vector}
 use Rattle.mining.specs.declared.run.Reached.{Reached}
 use Rattle.mining.specs.Places.{folder_of}
 use Rattle.mining.specs.Flow.{ends_unchanged}
 use Rattle.mining.specs.Between.{IsSure, KeepsWhole}
-use Rattle.mining.specs.Making.{IsAsAt}
 use Rattle.mining.specs.Read.{AreVectorsRead, HasRead, IsVectorRead}
 use Rattle.mining.proofs.EnsureLemmas.{stays_after}
 use Rattle.mining.proofs.ReadLemmas.{vector_stays, vectors_stay}
-use Rattle.driver.specs.Opening.{IsFromAny, IsFromThere, IsGreatest, IsSettled, StandsLater, first_read, mark_of}
+use Rattle.driver.specs.Opening.{IsFromAny, IsFromThere, IsSettled, StandsLater, first_read, mark_of}
 use Rattle.driver.proofs.Logging.{there_again}
 use Rattle.driver.proofs.Starting.{from_settled, settled_mark, sure_marked}
 

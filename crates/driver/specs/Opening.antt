@@ -84,7 +84,7 @@ abbrev pub IsFromAny : ℕ → State → Option ℕ → Type 0
 IsFromAny most state None = (mark_of (Vector 0) state ≡ None) × (mark_of (Vector 1) state ≡ None)
 IsFromAny most state (Some k) = IsGreatest most state k
 
--- the first iteration whose vector a run reads: that which it goes on after, where its count matters, else the next one
+-- the first iteration whose vector a run reads: that which it goes on after where its count matters, else the next
 abbrev pub first_read : Command → Option ℕ → ℕ
 first_read command None = 0
 first_read command (Some k) = if nat_le 1 k && ends_unchanged command then k else k + 1

@@ -123,8 +123,8 @@ pub fn run<E: Source, S: Site>(
     ensures stored { (conf : Settings) (path : Names) (line : ℕ) → Mean (map string_bytes words.now) conf
         → S.tells → result ≡ Outcome.BadStore path line
         → IsNotAsMade conf (files (S.told site.new)) path line }
-    // Whatever was there and whatever the children write: when it is done, all that it read of its vectors and of its result
-    // was as it is made, and the last line names the last of them.
+    // Whatever was there and whatever the children write: when it is done, all that it read of its vectors and of its
+    // result was as it is made, and the last line names the last of them.
     ensures good { (conf : Settings) (k : Option ℕ) → Mean (map string_bytes words.now) conf
         → is_mining conf.command ≡ true → S.tells
         → IsFromAny (most_of conf conf.command) (files (S.told site.old)) k → result ≡ Outcome.Done

@@ -121,7 +121,8 @@ fn go_on<S: Site>(alloc: Global, site: &mut S, conf: &Conf, had_first: bool) -> 
         → IfErr result (IfBadStore (IsNotAsMade conf.now (files (S.told site.new)))) }
     ensures read { (k : Option ℕ) → S.tells
         → IsFromThere had_first (most_of conf.now conf.now.command) (files (S.told site.old)) k
-        → OnOk result (HasRead conf.now (first_read conf.now.command k) (S.said site.new) (files (S.told site.new))) }
+        → OnOk result
+        (HasRead conf.now (first_read conf.now.command k) (S.said site.new) (files (S.told site.new))) }
 {
     let from = start(alloc, site, conf, had_first)?;
     mine_on(alloc, site, conf, from)
@@ -171,7 +172,8 @@ fn mine_settled<E: Source, S: Site>(
         → IfErr result (IfBadStore (IsNotAsMade conf.now (files (S.told site.new)))) }
     ensures good { (k : Option ℕ) → S.tells
         → IsFromAny (most_of conf.now conf.now.command) (files (S.told site.old)) k
-        → OnOk result (HasRead conf.now (first_read conf.now.command k) (S.said site.new) (files (S.told site.new))) }
+        → OnOk result
+        (HasRead conf.now (first_read conf.now.command k) (S.said site.new) (files (S.told site.new))) }
 {
     let had_first = has(alloc, site, Place::Vector(0))?;
     make_ready(alloc, site, conf, edges)?;
@@ -232,7 +234,8 @@ pub fn mine<E: Source, S: Site>(
     // At Ok all that it read of its vectors and of its result was as it is made.
     ensures good { (k : Option ℕ) → S.tells
         → IsFromAny (most_of conf.now conf.now.command) (files (S.told site.old)) k
-        → OnOk result (HasRead conf.now (first_read conf.now.command k) (S.said site.new) (files (S.told site.new))) }
+        → OnOk result
+        (HasRead conf.now (first_read conf.now.command k) (S.said site.new) (files (S.told site.new))) }
 {
     settle_all(alloc, site)?;
     mine_settled(alloc, site, conf, edges)

@@ -114,7 +114,8 @@ fn read_count<S: Site>(alloc: Global, site: &mut S, conf: &Conf, k: u32) -> Resu
     ensures err { IfErr result IsOfJobs }
     ensures stored { S.tells → IsSure (At.Vector k) (files (S.told site.old))
         → IfErr result (IfBadStore (IsNotAsMade conf.now (files (S.told site.new)))) }
-    ensures read { S.tells → IsSure (At.Vector k) (files (S.told site.old)) → ends_unchanged conf.now.command ≡ true
+    ensures read { S.tells → IsSure (At.Vector k) (files (S.told site.old))
+        → ends_unchanged conf.now.command ≡ true
         → OnOk result (IsVectorRead conf.now k (files (S.told site.new))) }
 {
     match conf.command {
@@ -151,7 +152,8 @@ fn take_up<S: Site>(alloc: Global, site: &mut S, conf: &Conf, k: u32) -> Result<
     ensures err { IfErr result IsOfJobs }
     ensures stored { S.tells → IsSure (At.Vector k) (files (S.told site.old))
         → IfErr result (IfBadStore (IsNotAsMade conf.now (files (S.told site.new)))) }
-    ensures read { S.tells → IsSure (At.Vector k) (files (S.told site.old)) → ends_unchanged conf.now.command ≡ true
+    ensures read { S.tells → IsSure (At.Vector k) (files (S.told site.old))
+        → ends_unchanged conf.now.command ≡ true
         → OnOk result (IsVectorRead conf.now k (files (S.told site.new))) }
 {
     let changed = read_count(alloc, site, conf, k)?;
@@ -450,7 +452,7 @@ pub fn start<S: Site>(
     ensures err { IfErr result IsOfMining }
     ensures stored { S.tells
         → IfErr result (IfBadStore (IsNotAsMade conf.now (files (S.told site.new)))) }
-    // The vector that it goes on after is read where its count matters, and that of the first iteration where it begins.
+    // The vector that it goes on after is read where its count matters, and the first one where it begins.
     ensures read { (k : Option ℕ) → S.tells
         → IsFromThere had_first (most_of conf.now conf.now.command) (files (S.told site.old)) k
         → IfOk result (λ reached.

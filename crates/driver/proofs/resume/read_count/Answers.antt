@@ -6,9 +6,6 @@ use Rattle.mining.specs.Table.{part_paths}
 use Rattle.job.specs.Inputs.{bytes_at_each}
 use Rattle.mining.proofs.DueLemmas.{count_is, if_ok}
 use Rattle.driver.proofs.TakenUp.{at_counted}
-use Rattle.std.proofs.Common.{ap}
-use Rattle.std.proofs.lemmas.Bool.{false≢true}
-use Rattle.mining.specs.Flow.{ends_unchanged}
 use Rattle.driver.proofs.resume.read_count.Goals as goal
 
 pub returns-in-Hcc-clause-at : goal.returns-in-Hcc-clause-at
