@@ -16,9 +16,8 @@ ghost use Rattle.mining.specs.Flow.{last_of, mining_of, most_of};
 ghost use Rattle.mining.specs.Iterations.{console};
 ghost use Rattle.mining.specs.Kept.{AllKept, Kept};
 ghost use Rattle.mining.specs.Read.{HasRead};
-ghost use Rattle.driver.specs.Opening.{
-    HasRun, HasVectors, IsFrom, IsFromAny, IsFromThere, KeepsFinished, StandsLater, StaysOne, first_read
-};
+ghost use Rattle.driver.specs.Opening.{HasRun, HasVectors, IsFrom, IsFromAny, IsFromThere, first_read};
+ghost use Rattle.driver.specs.Opening.{KeepsFinished, StandsLater, StaysOne};
 ghost use Rattle.mining.specs.Stops.{IsOfMining};
 ghost use Rattle.driver.specs.Causes.{IsOpened, IsRefusal, MakesNone, outcome_of};
 ghost use Rattle.mining.specs.Failures.{TellsOfAnswer};
