@@ -27,6 +27,7 @@ path_conf =
       split = 4;
       slots = 1;
       spill = 1024;
+      backup = false;
       form = Block;
       block = 2;
       iters = 1;
