@@ -1,5 +1,5 @@
 -- The folders of small graphs in blocks: a path of four nodes, and two nodes for ranks.
-use Rattle.std.specs.Prelude.{◌≡◌, decimal, true, List, [], ◌∷◌, codes, Some, None}
+use Rattle.std.specs.Prelude.{◌≡◌, decimal, true, false, List, [], ◌∷◌, codes, Some, None}
 use Rattle.graph.specs.declared.edges.Edge.{Edge}
 use Rattle.graph.specs.Examples.{from_to}
 use Rattle.conf.specs.declared.commands.Command.TheVariants.{Hcc, PageRank}
